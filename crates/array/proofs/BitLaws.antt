@@ -1,0 +1,77 @@
+-- Laws of bits.
+use mathlib.Core.Path.{_≡_, refl, sym, ap, _∙_, subst}
+use mathlib.Core.Bool.{Bool, true, false, _&&_, _||_}
+use Prim.Native.Nat.{ℕ, zero, suc, _+_, _-_, _*_, _/_, _%_, _^_, _≤_, _<_, min, max}
+use native.Mathlib.Omega.{arith}
+use native.Mathlib.Nat.{pow-succ', pow-zero, one-le-pow, two-pow-succ, zero-div, div-one, div-div-eq-div-mul, mod-lt}
+use lib.Dec.{eqb, ltb, leb, lit<, leb·suc-suc}
+use lib.Bits.{bitAnd, bitOr, and-shr, or-shr, and-mod, or-mod}
+use borrow.Author.Tests.{eqb-true, eqb-false, eq-eqb, ne-eqb, lt-ltb, le-ltb}
+use Rattle.array.specs.Bit.{bit}
+
+-- one binary digit
+digit-and : (x y : ℕ) → x < 2 → y < 2 → eqb (bitAnd x y) 1 ≡ (eqb x 1 && eqb y 1)
+digit-and zero zero p q = refl
+digit-and zero (suc zero) p q = refl
+digit-and (suc zero) zero p q = refl
+digit-and (suc zero) (suc zero) p q = refl
+digit-and (suc (suc x)) y p q = absurd (omega arith)
+digit-and zero (suc (suc y)) p q = absurd (omega arith)
+digit-and (suc zero) (suc (suc y)) p q = absurd (omega arith)
+
+digit-or : (x y : ℕ) → x < 2 → y < 2 → eqb (bitOr x y) 1 ≡ (eqb x 1 || eqb y 1)
+digit-or zero zero p q = refl
+digit-or zero (suc zero) p q = refl
+digit-or (suc zero) zero p q = refl
+digit-or (suc zero) (suc zero) p q = refl
+digit-or (suc (suc x)) y p q = absurd (omega arith)
+digit-or zero (suc (suc y)) p q = absurd (omega arith)
+digit-or (suc zero) (suc (suc y)) p q = absurd (omega arith)
+
+pub bit-and : (a b i : ℕ) → bit (bitAnd a b) i ≡ (bit a i && bit b i)
+unfolding bit
+bit-and a b i =
+    ap (λ (x : ℕ). eqb (x % 2) 1) (and-shr a b i)
+    ∙ ap (λ (x : ℕ). eqb x 1) (and-mod (a / 2 ^ i) (b / 2 ^ i) 1)
+    ∙ digit-and (a / 2 ^ i % 2) (b / 2 ^ i % 2) (omega arith) (omega arith)
+
+pub bit-or : (a b i : ℕ) → bit (bitOr a b) i ≡ (bit a i || bit b i)
+unfolding bit
+bit-or a b i =
+    ap (λ (x : ℕ). eqb (x % 2) 1) (or-shr a b i)
+    ∙ ap (λ (x : ℕ). eqb x 1) (or-mod (a / 2 ^ i) (b / 2 ^ i) 1)
+    ∙ digit-or (a / 2 ^ i % 2) (b / 2 ^ i % 2) (omega arith) (omega arith)
+
+-- ---- a bit as a digit
+
+pub bit-set : (w i : ℕ) → (w / 2 ^ i % 2 ≡ 0 → ⊥) → bit w i ≡ true
+unfolding bit
+bit-set w i h = eq-eqb (w / 2 ^ i % 2) 1 (omega arith)
+
+pub bit-clear : (w i : ℕ) → w / 2 ^ i % 2 ≡ 0 → bit w i ≡ false
+unfolding bit
+bit-clear w i h = ne-eqb (w / 2 ^ i % 2) 1 (λ e. omega arith)
+
+pub bit-none : (i : ℕ) → bit 0 i ≡ false
+bit-none i = bit-clear 0 i (rw zero-div)
+
+bit-first : (w : ℕ) → bit w 0 ≡ eqb (w % 2) 1
+unfolding bit
+bit-first w = rw (pow-zero, div-one)
+
+bit-next : (w i : ℕ) → bit w (suc i) ≡ bit (w / 2) i
+unfolding bit
+bit-next w i = ap (λ (x : ℕ). eqb (x % 2) 1) (ap (λ (d : ℕ). w / d) (pow-succ' 2 i) ∙ sym (div-div-eq-div-mul w 2 (2 ^ i)))
+
+-- the word of the bits below n
+pub bit-ones : (n i : ℕ) → bit (2 ^ n - 1) i ≡ ltb i n
+bit-ones zero i = bit-none i ∙ sym (le-ltb i 0 (omega arith))
+bit-ones (suc n) zero =
+    let one : 1 ≤ 2 ^ n = one-le-pow n 2 (lit< tt) in
+    bit-first (2 ^ suc n - 1)
+    ∙ eq-eqb ((2 ^ suc n - 1) % 2) 1 (omega (arith, two-pow-succ n))
+    ∙ sym (lt-ltb 0 (suc n) (omega arith))
+bit-ones (suc n) (suc i) =
+    let one : 1 ≤ 2 ^ n = one-le-pow n 2 (lit< tt) in
+    let half : (2 ^ suc n - 1) / 2 ≡ 2 ^ n - 1 = omega (arith, two-pow-succ n) in
+    bit-next (2 ^ suc n - 1) i ∙ ap (λ (w : ℕ). bit w i) half ∙ bit-ones n i ∙ sym (leb·suc-suc (suc i) n)

@@ -1,0 +1,5 @@
+pub mod TestLaws
+pub mod IndexLaws
+pub mod PlacesLaws
+pub mod WordLaws
+pub mod BitLaws

@@ -1,0 +1,5 @@
+pub mod ReadingLaws
+pub mod WritingLaws
+pub mod DigitsLaws
+pub mod ColumnLaws
+pub mod RowLaws

@@ -1,0 +1,137 @@
+-- Reading a column byte by byte: what each test of the code says of the definitions.
+use mathlib.Core.Path.{_≡_, refl, sym, ap, _∙_}
+use mathlib.Core.Bool.{true, false, and-false}
+use mathlib.Core.List.{List, []}
+use mathlib.Core.Option.{none, some}
+use Prim.Native.Nat.{ℕ, zero, suc, _+_, _-_, _*_, _^_, _<_, _≤_}
+use native.Mathlib.Numerals.{add-one}
+use native.Mathlib.Nat.{le-trans, min-le-left}
+use native.Mathlib.Omega.{arith}
+use lib.ListN.{length, getD, take, drop, length-take, drop-of-length-le}
+use lib.Seq.{take-all, take-length, take-add, drop-at, length-take-le, slice, slice-cons}
+use lib.Dec.{leb, eqb}
+use borrow.Author.Tests.{eq-eqb, ne-eqb, le-leb, lt-leb, lt-ltb, le-ltb, eqb-true, eqb-false}
+use Rattle.array.specs.Index.{allBelow}
+use Rattle.array.proofs.TestLaws.{split, and-false-right}
+use Rattle.array.proofs.IndexLaws.{allBelow-more, allBelow-fails}
+use Rattle.column.specs.Column.{dropBlanks, isDigit, decimal, wellFormed, numeralOf}
+
+-- ---- the blanks
+
+module _ (s : List ℕ) (i t : ℕ) (h : i < t) (l : t ≤ length s) where
+  -- a blank is passed over
+  pub blanks-skip : getD s i 0 ≡ 32 → dropBlanks (slice i t s) ≡ dropBlanks (slice (i + 1) t s)
+  unfolding dropBlanks
+  blanks-skip e = ap dropBlanks (slice-cons i t s 0 h l) ∙ rw (add-one i, eq-eqb (getD s i 0) 32 e)
+
+  -- the first other byte ends the blanks
+  pub blanks-stop : (getD s i 0 ≡ 32 → ⊥) → dropBlanks (slice i t s) ≡ slice i t s
+  unfolding dropBlanks
+  blanks-stop e = ap dropBlanks (slice-cons i t s 0 h l) ∙ rw (ne-eqb (getD s i 0) 32 e) (sym (slice-cons i t s 0 h l))
+
+-- of a part that reaches past the list's end only what lies in the list counts
+pub slice-past : (s : List ℕ) (f t : ℕ) → length s ≤ t → slice f t s ≡ slice f (length s) s
+slice-past s f t l = rw (take-all t s l, take-length s)
+
+pub slice-behind : (s : List ℕ) (f t : ℕ) → t ≤ f → slice f t s ≡ []
+slice-behind s f t l = drop-of-length-le (take t s) {i = f} (le-trans (rw length-take (min-le-left t (length s))) l)
+
+-- a part as the code takes it
+pub slice-part : (s : List ℕ) (f t : ℕ) → f ≤ t → t ≤ length s → take (t - f) (drop f s) ≡ slice f t s
+slice-part s f t l k =
+    let e : t ≡ f + (t - f) = omega arith in
+    sym (ap (λ (n : ℕ). slice f n s) e ∙ rw take-add (drop-at (take f s) (take (t - f) (drop f s)) f (length-take-le f s (omega arith))))
+
+-- ---- the digits
+
+module _ (d : List ℕ) where
+  pub decimal-none : decimal d 0 ≡ 0
+  unfolding decimal
+  decimal-none = refl
+
+  pub decimal-more : (k : ℕ) → decimal d (k + 1) ≡ decimal d k * 10 + (getD d k 0 - 48)
+  unfolding decimal
+  decimal-more k = rw (add-one k)
+
+  pub decimal-grows : (k n : ℕ) → k ≤ n → decimal d k ≤ decimal d n
+  unfolding decimal
+  decimal-grows k zero l = let e : k ≡ 0 = omega arith in rw e (omega arith)
+  decimal-grows k (suc n) l =
+      split (eqb k (suc n))
+      (λ t. rw (eqb-true k (suc n) t) (omega arith))
+      (λ t. omega (arith, decimal-grows k n (omega (arith, eqb-false k (suc n) t))))
+
+  -- a byte more is a digit
+  pub digits-more :
+      (k : ℕ) →
+      allBelow (λ i. isDigit (getD d i 0)) k ≡ true →
+      48 ≤ getD d k 0 →
+      getD d k 0 ≤ 57 →
+      allBelow (λ i. isDigit (getD d i 0)) (k + 1) ≡ true
+  digits-more k a h l = allBelow-more (λ i. isDigit (getD d i 0)) k a (rw (le-leb 48 (getD d k 0) h, le-leb (getD d k 0) 57 l))
+
+  -- ---- what is refused
+
+  pub numeral-malformed : wellFormed d ≡ false → none ≡ numeralOf d
+  unfolding numeralOf
+  numeral-malformed e = rw e
+
+  pub numeral-empty : length d ≡ 0 → none ≡ numeralOf d
+  unfolding wellFormed
+  numeral-empty e = numeral-malformed (rw e)
+
+  -- a zero before others
+  pub numeral-zeros : getD d 0 0 ≡ 48 → (length d ≡ 1 → ⊥) → none ≡ numeralOf d
+  unfolding wellFormed
+  numeral-zeros e n = numeral-malformed (rw (eq-eqb (getD d 0 0) 48 e, ne-eqb (length d) 1 n, and-false))
+
+  pub numeral-other : (k : ℕ) → k < length d → isDigit (getD d k 0) ≡ false → none ≡ numeralOf d
+  unfolding wellFormed
+  numeral-other k l e = numeral-malformed (rw (allBelow-fails (λ i. isDigit (getD d i 0)) (length d) k l e, and-false))
+
+  pub numeral-low : (k : ℕ) → k < length d → getD d k 0 < 48 → none ≡ numeralOf d
+  numeral-low k l h = numeral-other k l (rw (lt-leb 48 (getD d k 0) h))
+
+  pub numeral-high : (k : ℕ) → k < length d → 57 < getD d k 0 → none ≡ numeralOf d
+  numeral-high k l h = numeral-other k l (and-false-right (leb 48 (getD d k 0)) (lt-leb (getD d k 0) 57 h))
+
+  -- too large already at the first k digits
+  pub numeral-large : (k : ℕ) → k ≤ length d → 2 ^ 64 ≤ decimal d k → none ≡ numeralOf d
+  unfolding numeralOf
+  numeral-large k l h = rw (le-ltb (decimal d (length d)) (2 ^ 64) (le-trans h (decimal-grows k (length d) l)), and-false)
+
+  -- ---- what is read
+
+  pub wellFormed-all :
+      (0 < length d) →
+      (getD d 0 0 ≡ 48 → length d ≡ 1) →
+      allBelow (λ i. isDigit (getD d i 0)) (length d) ≡ true →
+      wellFormed d ≡ true
+  unfolding wellFormed
+  wellFormed-all p z a =
+      split (eqb (getD d 0 0) 48)
+      (λ t. rw (lt-ltb 0 (length d) p, t, eq-eqb (length d) 1 (z (eqb-true (getD d 0 0) 48 t)), a))
+      (λ t. rw (lt-ltb 0 (length d) p, t, a))
+
+  pub numeral-read : wellFormed d ≡ true → decimal d (length d) < 2 ^ 64 → some (decimal d (length d)) ≡ numeralOf d
+  unfolding numeralOf
+  numeral-read e l = rw (e, lt-ltb (decimal d (length d)) (2 ^ 64) l)
+
+  -- each byte was a digit, and the first no zero
+  pub numeral-whole :
+      (i v : ℕ) →
+      i ≡ length d →
+      v ≡ decimal d i →
+      allBelow (λ k. isDigit (getD d k 0)) i ≡ true →
+      (length d ≡ 0 → ⊥) →
+      (getD d 0 0 ≡ 48 → ⊥) →
+      v < 2 ^ 64 →
+      some v ≡ numeralOf d
+  numeral-whole i v e q a n z l =
+      let m : v ≡ decimal d (length d) = q ∙ ap (decimal d) e in
+      let w : wellFormed d ≡ true = wellFormed-all (omega arith) (λ t. absurd (z t)) (rw (← e) a) in
+      ap some m ∙ numeral-read w (rw (← m) l)
+
+  pub numeral-zero : getD d 0 0 ≡ 48 → length d ≡ 1 → some 0 ≡ numeralOf d
+  unfolding numeralOf wellFormed decimal allBelow
+  numeral-zero e n = rw (n, e)

@@ -1,0 +1,12 @@
+-- `column::read` meets its contract: what its two calls ensure, one after the other.
+use borrow.Author.Needs.{needs}
+use Rattle.column.specs.Column.{numberOf}
+use Rattle.column.proofs.read.Statement.{statement}
+use Rattle.column.proofs.read.Tie as tie
+
+returns : tie.Need-returns
+unfolding numberOf
+returns c = cc
+
+pub read-spec : {M : Type 1} → statement M
+read-spec = tie.close (tie.spec (λ c κs. search needs) (λ c κs. search needs) returns)

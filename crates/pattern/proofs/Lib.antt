@@ -1,0 +1,4 @@
+pub mod FloatLaws
+pub mod PatternLaws
+pub mod BoundLaws
+pub mod ConstantLaws

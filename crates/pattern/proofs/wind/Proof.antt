@@ -1,0 +1,13 @@
+use Rattle.pattern.specs.Pattern.{windOf}
+use borrow.Author.Needs.{needs}
+use Rattle.pattern.proofs.wind.Statement.{statement}
+use Rattle.pattern.proofs.wind.Tie as tie
+
+returns : tie.Need-returns
+unfolding windOf
+returns c = cc
+
+pub wind-spec : {M : Type 1} → statement M
+wind-spec =
+    tie.close
+    (tie.spec (λ c κs. search needs) (λ c κs. search needs) (λ c κs. search needs) (λ c κs. search needs) returns)
