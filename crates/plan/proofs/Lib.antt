@@ -1,0 +1,7 @@
+pub mod AcceptedLaws
+pub mod KnownLaws
+pub mod PeriodLaws
+pub mod WalkLaws
+pub mod WalkedLaws
+pub mod EntryLaws
+pub mod ShortTable

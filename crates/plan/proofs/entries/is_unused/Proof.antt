@@ -1,0 +1,12 @@
+-- `plan::entries::is_unused` meets its contract: the code is the definition.
+use borrow.Author.Needs.{needs}
+use Rattle.plan.specs.Accepted.{isUnused}
+use Rattle.plan.proofs.entries.is_unused.Statement.{statement}
+use Rattle.plan.proofs.entries.is_unused.Tie as tie
+
+returns : tie.Need-returns
+unfolding isUnused
+returns c = cc
+
+pub is-unused-spec : {M : Type 1} → statement M
+is-unused-spec = tie.close (tie.spec (λ c κs. search needs) returns)

@@ -1,0 +1,75 @@
+-- Document 01, 'Recovery': "A cell's being known is defined from the plan only."
+use mathlib.Core.Bool.{Bool, true, false, cond, _&&_}
+use mathlib.Core.List.{List}
+use Prim.Native.Nat.{ℕ, zero, suc, _+_, _*_, _%_}
+use lib.ListN.{getD, set, replicate}
+use lib.Dec.{eqb}
+use Rattle.array.specs.Index.{allBelow}
+use Rattle.plan.specs.declared.Op.{Op}
+use Rattle.plan.specs.declared.Op.the-variants.{Take, Sum, Diff, Scale, Limit, Wind}
+use Rattle.plan.specs.declared.Task.{Task}
+use Rattle.plan.specs.declared.Plan.{Plan}
+use Rattle.plan.specs.Limits.{mostCells}
+
+-- "an unused task is a Take of zeros"
+abbrev pub unusedTask : Task
+unusedTask = record { frame = 0; target = 0; op = Take 0 }
+
+-- task k of a plan, in text order
+abbrev pub taskAt : Plan → ℕ → Task
+taskAt p k = getD (p .tasks) k unusedTask
+
+-- whether a cell is voted in a frame: the one place that knows how the table is laid out
+unfoldable pub votedIn : Plan → ℕ → ℕ → Bool
+votedIn p frame cell = getD (p .voted) (mostCells * frame + cell) false
+
+-- whether all cells that a task reads are known: "Take reads none; Wind reads its target too"
+unfoldable pub readsKnown : Op → ℕ → List Bool → Bool
+readsKnown (Take s) target ks = true
+readsKnown (Sum a b) target ks = getD ks a false && getD ks b false
+readsKnown (Diff a b) target ks = getD ks a false && getD ks b false
+readsKnown (Scale a factor) target ks = getD ks a false
+readsKnown (Limit a low high) target ks = getD ks a false
+readsKnown (Wind a law) target ks = getD ks a false && getD ks target false
+
+-- "a task's target becomes known if all cells it reads are known, unknown otherwise"
+unfoldable pub knowTask : ℕ → Task → List Bool → List Bool
+knowTask g t ks = cond (eqb (t .frame) g) (set ks (t .target) (readsKnown (t .op) (t .target) ks)) ks
+
+-- the first k tasks, those of frame g in order
+unfoldable pub knowTasks : Plan → ℕ → ℕ → List Bool → List Bool
+knowTasks p g zero ks = ks
+knowTasks p g (suc k) ks = knowTask g (taskAt p k) (knowTasks p g k ks)
+
+-- "then the cells voted in that frame become known": those below k
+unfoldable pub knowVoted : Plan → ℕ → ℕ → List Bool → List Bool
+knowVoted p g zero ks = ks
+knowVoted p g (suc k) ks = cond (votedIn p g k) (set (knowVoted p g k ks) k true) (knowVoted p g k ks)
+
+-- one good frame g after others
+unfoldable pub knowFrame : Plan → ℕ → List Bool → List Bool
+knowFrame p g ks = knowVoted p g (p .cells) (knowTasks p g (p .«task_count») ks)
+
+abbrev pub noneKnown : List Bool
+noneKnown = replicate mostCells false
+
+-- the known cells after h good frames, the first of them frame g.
+-- "After the first good frame g, known cells are those voted in g": its tasks do not count
+unfoldable pub known : Plan → ℕ → ℕ → List Bool
+known p g zero = noneKnown
+known p g (suc zero) = knowVoted p g (p .cells) noneKnown
+known p g (suc (suc h)) = knowFrame p ((g + suc h) % p .frames) (known p g (suc h))
+
+-- for every first frame, all cells are known after h good frames
+unfoldable pub allKnown : Plan → ℕ → Bool
+allKnown p h = allBelow (λ g. allBelow (λ c. getD (known p g h) c false) (p .cells)) (p .frames)
+
+-- the least count from 1 to k after which all cells are known, and 0 if there is none
+unfoldable pub periodTo : Plan → ℕ → ℕ
+periodTo p zero = 0
+periodTo p (suc k) = cond (eqb (periodTo p k) 0) (cond (allKnown p (suc k)) (suc k) 0) (periodTo p k)
+
+-- "R is the least count such that for every first frame, all cells are known after R good frames"; 0 if none exists.
+-- "If any exists, R ≤ 1 + F × C": the law `period-least`
+unfoldable pub period : Plan → ℕ
+period p = periodTo p (1 + p .frames * p .cells)

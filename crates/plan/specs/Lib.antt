@@ -1,0 +1,5 @@
+pub mod Limits
+pub mod Known
+pub mod Accepted
+pub mod Answers
+pub mod Walk

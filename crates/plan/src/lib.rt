@@ -1,0 +1,120 @@
+// The plan record: which records an accepted text has, and the recovery period.
+ghost use mathlib.Core.Path.{_≡_};
+ghost use Rattle.plan.specs.Accepted.{wellFormed};
+ghost use Rattle.plan.specs.Answers.{checked, acceptedPeriod, periodFound};
+use answer::Answer;
+use pattern::WindLaw;
+
+mod entries;
+pub mod step;
+
+// A task is one of six kinds with the constants of its own kind. The numbers are cells, but for Take's sensor.
+pub enum Op {
+    Take(usize),
+    Sum(usize, usize),
+    Diff(usize, usize),
+    Scale(usize, f64),
+    Limit(usize, f64, f64),
+    Wind(usize, WindLaw),
+}
+
+// A task line.
+pub struct Task {
+    pub frame: usize,
+    pub target: usize,
+    pub op: Op,
+}
+
+pub struct Plan {
+    pub nodes: usize,
+    pub frames: usize,
+    pub cells: usize,
+    pub sensors: usize,
+    pub actuators: usize,
+    pub initial: [u64; Plan::CELLS],
+    pub task_count: usize,
+    pub tasks: [Task; Plan::TASKS],
+    // Entry CELLS * frame + cell.
+    pub voted: [bool; Plan::VOTES],
+    pub actuator_cell: [usize; Plan::ACTUATORS],
+}
+
+impl Plan {
+    pub const NODES: usize = 7;
+
+    pub const FRAMES: usize = 16;
+
+    pub const CELLS: usize = 32;
+
+    pub const SENSORS: usize = 16;
+
+    pub const ACTUATORS: usize = 8;
+
+    pub const TASKS: usize = 64;
+
+    pub const VOTES: usize = Plan::FRAMES * Plan::CELLS;
+}
+
+pub struct PeriodFound {
+    pub answer: Answer,
+    pub period: usize,
+}
+
+fn well_formed(p: Plan) -> bool
+    ensures { λ r. ⌜ r ≡ wellFormed p ⌝ }
+{
+    let nodes = p.nodes;
+    let frames = p.frames;
+    let cells = p.cells;
+    let sensors = p.sensors;
+    let actuators = p.actuators;
+    let tasks = p.task_count;
+    if !entries::header_ok(nodes, frames, cells, sensors, actuators, tasks) {
+        return false;
+    }
+    if !entries::tasks_ok(p) {
+        return false;
+    }
+    if !entries::initial_ok(&p.initial, cells) {
+        return false;
+    }
+    if !entries::votes_ok(&p.voted, frames, cells) {
+        return false;
+    }
+    entries::actuators_ok(&p.actuator_cell, actuators, cells)
+}
+
+// The recovery period of an accepted record, and 0 for all others: the test of a record for the calls above.
+pub fn accepted_period(plan: Plan) -> usize
+    ensures { λ r. ⌜ r ≡ acceptedPeriod plan ⌝ }
+{
+    if well_formed(plan) {
+        return step::period(plan);
+    }
+    0
+}
+
+pub fn check(plan: Plan) -> Answer
+    ensures { λ r. ⌜ r ≡ checked plan ⌝ }
+{
+    if accepted_period(plan) == 0 {
+        return Answer::InvalidPlan;
+    }
+    Answer::Done
+}
+
+pub fn recovery_period(plan: Plan) -> PeriodFound
+    ensures { λ r. ⌜ r ≡ periodFound plan ⌝ }
+{
+    let period = accepted_period(plan);
+    if period == 0 {
+        return PeriodFound {
+            answer: Answer::InvalidPlan,
+            period: 0,
+        };
+    }
+    PeriodFound {
+        answer: Answer::Done,
+        period,
+    }
+}
