@@ -5,3 +5,4 @@ pub mod WalkLaws
 pub mod WalkedLaws
 pub mod EntryLaws
 pub mod ShortTable
+pub mod AnswerLaws

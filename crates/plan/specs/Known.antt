@@ -1,7 +1,7 @@
 -- Document 01, 'Recovery': "A cell's being known is defined from the plan only."
 use mathlib.Core.Bool.{Bool, true, false, cond, _&&_}
 use mathlib.Core.List.{List}
-use Prim.Native.Nat.{ℕ, zero, suc, _+_, _*_, _%_}
+use Prim.Native.Nat.{ℕ, zero, suc, _+_, _*_, _/_, _%_}
 use lib.ListN.{getD, set, replicate}
 use lib.Dec.{eqb}
 use Rattle.array.specs.Index.{allBelow}
@@ -19,9 +19,19 @@ unusedTask = record { frame = 0; target = 0; op = Take 0 }
 abbrev pub taskAt : Plan → ℕ → Task
 taskAt p k = getD (p .tasks) k unusedTask
 
--- whether a cell is voted in a frame: the one place that knows how the table is laid out
+-- how the table of votes is laid out: the entry of a frame and a cell, and the frame and the cell of an entry
+abbrev pub votePlace : ℕ → ℕ → ℕ
+votePlace frame cell = mostCells * frame + cell
+
+abbrev pub voteFrame : ℕ → ℕ
+voteFrame e = e / mostCells
+
+abbrev pub voteCell : ℕ → ℕ
+voteCell e = e % mostCells
+
+-- whether a cell is voted in a frame
 unfoldable pub votedIn : Plan → ℕ → ℕ → Bool
-votedIn p frame cell = getD (p .voted) (mostCells * frame + cell) false
+votedIn p frame cell = getD (p .voted) (votePlace frame cell) false
 
 -- whether all cells that a task reads are known: "Take reads none; Wind reads its target too"
 unfoldable pub readsKnown : Op → ℕ → List Bool → Bool

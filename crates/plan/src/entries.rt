@@ -59,7 +59,7 @@ fn is_zero_take(op: Op) -> bool
     }
 }
 
-fn task_ok(frames: usize, cells: usize, sensors: usize, t: Task) -> bool
+pub fn task_ok(frames: usize, cells: usize, sensors: usize, t: Task) -> bool
     ensures { λ r. ⌜ r ≡ taskOk frames cells sensors t ⌝ }
 {
     let op = t.op;

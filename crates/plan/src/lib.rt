@@ -5,7 +5,7 @@ ghost use Rattle.plan.specs.Answers.{checked, acceptedPeriod, periodFoun
 use answer::Answer;
 use pattern::WindLaw;
 
-mod entries;
+pub mod entries;
 pub mod step;
 
 // A task is one of six kinds with the constants of its own kind. The numbers are cells, but for Take's sensor.

@@ -1,0 +1,250 @@
+// The steps of a node, for callers that know the plan to be accepted and the lengths to be right.
+ghost use mathlib.Core.Path.{_≡_};
+ghost use mathlib.Core.Bool.{true, cond};
+ghost use mathlib.Core.Option.{Option·getD};
+ghost use Prim.Native.Nat.{ℕ, _+_, _-_, _*_, _%_, _<_, _≤_};
+ghost use lib.ListN.{length, getD, set, replicate};
+ghost use Rattle.array.specs.Index.{fill};
+ghost use Rattle.array.specs.Word.{be};
+ghost use Rattle.plan.specs.Limits.{mostNodes, mostCells};
+ghost use Rattle.plan.specs.Accepted.{accepted};
+ghost use Rattle.node.specs.Size.{counterSize, patternSize, cellAt, messageSize, mailboxSize};
+ghost use Rattle.node.specs.Task.{opValue};
+ghost use Rattle.node.specs.Majority.{holders as holdersOf, majority as majorityOf};
+ghost use Rattle.node.specs.Node.{poweredOn, computed, messageOf, orOwn, voted, setpoint};
+ghost use Rattle.node.specs.Answers.{valueOf};
+use super::Memory;
+use super::Voted;
+use plan::Op;
+use plan::Plan;
+use plan::Task;
+
+pub fn power_on(plan: Plan) -> Memory
+    requires { ⌜ accepted plan ≡ true ⌝ }
+    ensures { λ r. ⌜ r ≡ poweredOn plan ⌝ }
+{
+    let cells = plan.initial;
+    Memory { counter: 0, cells }
+}
+
+fn entry(l: &[u64], i: usize) -> u64
+    ensures { λ r. ⌜ r ≡ getD (now (l .entry)) i 0 ⌝ }
+{
+    if i < l.len() {
+        return l[i];
+    }
+    0
+}
+
+fn op_value(op: Op, target: usize, sensors: &[u64], cells: &[u64]) -> u64
+    ensures { λ r. ⌜ r ≡ opValue op target (now (sensors .entry)) (now (cells .entry)) ⌝ }
+{
+    match op {
+        Op::Take(s) => entry(sensors, s),
+        Op::Sum(a, b) => pattern::sum(entry(cells, a), entry(cells, b)),
+        Op::Diff(a, b) => pattern::diff(entry(cells, a), entry(cells, b)),
+        Op::Scale(a, factor) => pattern::scale(factor, entry(cells, a)),
+        Op::Limit(a, low, high) => pattern::limit(entry(cells, a), low, high),
+        Op::Wind(a, law) => pattern::wind(entry(cells, target), entry(cells, a), law),
+    }
+}
+
+fn run_task(cells: &mut [u64; Plan::CELLS], t: Task, sensors: &[u64])
+    requires { ⌜ t .target < mostCells ⌝ }
+    ensures { λ _. ⌜ now (cells .exit) ≡ set (now (cells .entry)) (t .target) (opValue (t .op) (t .target) (now (sensors .entry)) (now (cells .entry))) ⌝ }
+{
+    let op = t.op;
+    let target = t.target;
+    let v = op_value(op, target, sensors, cells);
+    cells[target] = v;
+}
+
+pub fn compute(plan: Plan, memory: Memory, sensors: &[u64]) -> Memory
+    requires { ⌜ (accepted plan ≡ true) × (length (now sensors) ≡ plan .sensors) ⌝ }
+    ensures { λ r. ⌜ r ≡ computed plan (now (sensors .entry)) memory ⌝ }
+{
+    let frames = plan.frames;
+    let count = plan.task_count;
+    let counter = memory.counter as usize;
+    let g = counter % frames;
+    let mut cells = memory.cells;
+    let mut k: usize = 0;
+    while k < count {
+        let frame = plan.tasks[k].frame;
+        if frame == g {
+            let t = plan.tasks[k];
+            run_task(&mut cells, t, sensors);
+        }
+        k += 1;
+    }
+    let next = ((g + 1) % frames) as u16;
+    Memory {
+        counter: next,
+        cells,
+    }
+}
+
+pub fn message_size(cells: usize) -> usize
+    requires { ⌜ cells ≤ mostCells ⌝ }
+    ensures { λ r. ⌜ r ≡ cellAt cells ⌝ }
+{
+    2 + 8 * cells
+}
+
+// The frame before a counter.
+fn frame_before(counter: u16, frames: usize) -> usize
+    requires { ⌜ (0 < frames) × (frames ≤ 16) ⌝ }
+    ensures { λ r. ⌜ (r ≡ (counter + frames - 1) % frames) × (r < frames) ⌝ }
+{
+    (counter as usize + frames - 1) % frames
+}
+
+fn sent(voted: bool, cell: u64) -> u64
+    ensures { λ r. ⌜ r ≡ cond voted cell 0 ⌝ }
+{
+    if voted { cell } else { 0 }
+}
+
+pub fn message(plan: Plan, memory: Memory, out: &mut [u8])
+    requires { ⌜ (accepted plan ≡ true) × (length (now out) ≡ messageSize plan) ⌝ }
+    ensures { λ _. ⌜ now (out .exit) ≡ messageOf plan memory ⌝ }
+{
+    let cells = plan.cells;
+    let frames = plan.frames;
+    let counter = memory.counter;
+    let g = frame_before(counter, frames);
+    array::step::write2(out, 0, counter);
+    let mut c: usize = 0;
+    while c < cells {
+        let x = sent(plan.voted[Plan::CELLS * g + c], memory.cells[c]);
+        array::step::write8(out, 2 + 8 * c, x);
+        c += 1;
+    }
+}
+
+// How many of the first k values are x.
+pub fn holders(values: &[u64; Plan::NODES], k: usize, x: u64) -> usize
+    requires { ⌜ k ≤ mostNodes ⌝ }
+    ensures { λ r. ⌜ r ≡ holdersOf (λ j. getD (now (values .entry)) j 0) k x ⌝ }
+{
+    let mut held: usize = 0;
+    let mut j: usize = 0;
+    while j < k {
+        if values[j] == x {
+            held += 1;
+        }
+        j += 1;
+    }
+    held
+}
+
+// The value of the first of k bins that more than half of n share.
+pub fn majority(values: &[u64; Plan::NODES], k: usize, n: usize) -> Voted
+    requires { ⌜ k ≤ mostNodes ⌝ }
+    ensures { λ r. ⌜ valueOf r ≡ majorityOf (λ j. getD (now (values .entry)) j 0) k n ⌝ }
+{
+    let mut found = Voted::Nothing;
+    let mut i: usize = 0;
+    'candidates: while i < k {
+        let x = values[i];
+        let mut held: usize = 0;
+        let mut j: usize = 0;
+        while j < k {
+            if values[j] == x {
+                held += 1;
+                if n < 2 * held {
+                    found = Voted::Value(x);
+                    break 'candidates;
+                }
+            }
+            j += 1;
+        }
+        i += 1;
+    }
+    found
+}
+
+// What the n bins of a mailbox say of the counter, and of the cell that stands at `at` in each.
+fn counters(mailbox: &[u8], n: usize, size: usize) -> [u64; Plan::NODES]
+    requires { ⌜ (n ≤ mostNodes) × (n * size ≤ length (now mailbox)) × (counterSize ≤ size) × (size < 4096) ⌝ }
+    ensures { λ r. ⌜ r ≡ fill (λ j. be counterSize (now (mailbox .entry)) (j * size)) n (replicate mostNodes 0) ⌝ }
+{
+    let mut values = [0u64; Plan::NODES];
+    let mut j: usize = 0;
+    while j < n {
+        values[j] = array::step::read2(mailbox, j * size) as u64;
+        j += 1;
+    }
+    values
+}
+
+fn cells_at(mailbox: &[u8], n: usize, size: usize, at: usize) -> [u64; Plan::NODES]
+    requires { ⌜ (n ≤ mostNodes) × (n * size ≤ length (now mailbox)) × (at + patternSize ≤ size) × (size < 4096) ⌝ }
+    ensures { λ r. ⌜ r ≡ fill (λ j. be patternSize (now (mailbox .entry)) (j * size + at)) n (replicate mostNodes 0) ⌝ }
+{
+    let mut values = [0u64; Plan::NODES];
+    let mut j: usize = 0;
+    while j < n {
+        values[j] = array::step::read8(mailbox, j * size + at);
+        j += 1;
+    }
+    values
+}
+
+fn or_own(frames: usize, own: u16, v: Voted) -> u16
+    requires { ⌜ frames ≤ 16 ⌝ }
+    ensures { λ r. ⌜ r ≡ orOwn frames own (valueOf v) ⌝ }
+{
+    let Voted::Value(x) = v else {
+        return own;
+    };
+    if x < frames as u64 {
+        return x as u16;
+    }
+    own
+}
+
+fn or_old(v: Voted, old: u64) -> u64
+    ensures { λ r. ⌜ r ≡ Option·getD (valueOf v) old ⌝ }
+{
+    match v {
+        Voted::Value(x) => x,
+        Voted::Nothing => old,
+    }
+}
+
+pub fn vote(plan: Plan, memory: Memory, mailbox: &[u8]) -> Memory
+    requires { ⌜ (accepted plan ≡ true) × (length (now mailbox) ≡ mailboxSize plan) ⌝ }
+    ensures { λ r. ⌜ r ≡ voted plan memory (now (mailbox .entry)) ⌝ }
+{
+    let n = plan.nodes;
+    let frames = plan.frames;
+    let count = plan.cells;
+    let size = message_size(count);
+    let bins = counters(mailbox, n, size);
+    let counter = or_own(frames, memory.counter, majority(&bins, n, n));
+    let frame = frame_before(counter, frames);
+    let mut cells = memory.cells;
+    let mut c: usize = 0;
+    while c < count {
+        if plan.voted[Plan::CELLS * frame + c] {
+            let values = cells_at(mailbox, n, size, 2 + 8 * c);
+            cells[c] = or_old(majority(&values, n, n), cells[c]);
+        }
+        c += 1;
+    }
+    Memory { counter, cells }
+}
+
+pub fn setpoints(plan: Plan, memory: Memory, out: &mut [u64])
+    requires { ⌜ (accepted plan ≡ true) × (length (now out) ≡ plan .actuators) ⌝ }
+    ensures { λ _. ⌜ now (out .exit) ≡ fill (setpoint plan memory) (plan .actuators) (now (out .entry)) ⌝ }
+{
+    let count = plan.actuators;
+    let mut i: usize = 0;
+    while i < count {
+        let cell = plan.actuator_cell[i];
+        out[i] = memory.cells[cell];
+        i += 1;
+    }
+}
