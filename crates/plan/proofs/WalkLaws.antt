@@ -8,14 +8,14 @@ use native.Mathlib.Nat.{one-mul, mod-eq-of-lt, pow-le-pow-right, one-le-pow}
 use native.Mathlib.Numerals.{add-one}
 use lib.Dec.{eqb, ltb, lit<}
 use lib.ListN.{length, getD, set}
-use lib.Bits.{bitAnd, bitOr, or-zero-r}
+use lib.Bits.{bitAnd, bitOr}
 use borrow.Author.Tests.{eqb-true, eqb-false, lt-ltb, le-ltb}
 use Rattle.array.specs.Index.{allBelow, fill}
 use Rattle.array.specs.Bit.{bit}
 use Rattle.array.proofs.TestLaws.{split}
 use Rattle.array.proofs.IndexLaws.{allBelow-none, allBelow-more, allBelow-fails}
 use Rattle.array.proofs.BitLaws.{bit-and, bit-or, bit-ones, bit-set, bit-clear}
-use Rattle.array.proofs.PlacesLaws.{fill-more, fill-kept, fill-out}
+use Rattle.array.proofs.PlacesLaws.{fill-more, fill-out}
 use Rattle.plan.specs.Walk.{withVotes, Unset}
 
 -- ---- words of ones
@@ -42,11 +42,8 @@ module _ (voted : List Bool) (frame begun : ℕ) (ws₀ : List ℕ) where
   abbrev pub votedWord : ℕ → ℕ
   votedWord c = bitOr (getD ws₀ c 0) (cond (getD voted (32 * frame + c) false) begun 0)
 
-  pub votes-hit : (ws : List ℕ) (c : ℕ) → ws ≡ fill votedWord c ws₀ → getD voted (32 * frame + c) false ≡ true → set ws c (bitOr (getD ws c 0) begun) ≡ fill votedWord (c + 1) ws₀
-  votes-hit ws c e v = rw (e, fill-out votedWord c ws₀ c 0 (omega arith)) (fill-more votedWord c ws₀ _ (rw v))
-
-  pub votes-miss : (ws : List ℕ) (c : ℕ) → ws ≡ fill votedWord c ws₀ → getD voted (32 * frame + c) false ≡ false → ws ≡ fill votedWord (c + 1) ws₀
-  votes-miss ws c e v = e ∙ fill-kept votedWord c ws₀ 0 (rw v (or-zero-r (getD ws₀ c 0)))
+  pub votes-more : (ws : List ℕ) (c r : ℕ) → ws ≡ fill votedWord c ws₀ → r ≡ cond (getD voted (32 * frame + c) false) begun 0 → set ws c (bitOr (getD ws c 0) r) ≡ fill votedWord (c + 1) ws₀
+  votes-more ws c r e v = rw (e, v, fill-out votedWord c ws₀ c 0 (omega arith)) (fill-more votedWord c ws₀ _ refl)
 
 -- ---- the first frames from which all is known
 

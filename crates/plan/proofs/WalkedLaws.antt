@@ -24,7 +24,7 @@ use Rattle.plan.specs.declared.Task.{Task}
 use Rattle.plan.specs.declared.Plan.{Plan}
 use Rattle.plan.specs.declared.step.Walk.{Walk}
 use Rattle.plan.specs.Known.{taskAt, votedIn, readsKnown, knowTask, knowTasks, knowVoted, knowFrame, known, noneKnown, allKnown, period}
-use Rattle.plan.specs.Walk.{walkStart, readWord, afterTask, withVotes, whole, longer, Closed}
+use Rattle.plan.specs.Walk.{walkStart, wordsStart, readWord, afterTask, withVotes, whole, longer, Closed}
 use Rattle.plan.proofs.AcceptedLaws.{Shape}
 use Rattle.plan.proofs.KnownLaws.{All, task-elsewhere, task-here, task-target, task-other, voted-is, voted-past, tasks-length, known-first, known-next, known-length, none-known}
 use Rattle.plan.proofs.PeriodLaws.{allKnown-at, allKnown-all, all-stays, allKnown-stays, period-is, period-none}
@@ -108,13 +108,13 @@ module _ (longest low frames ran : ℕ) where
 -- ---- the walk
 
 -- what holds before task i, or before the votes: the words say what is known from each first frame that is begun
-pub record Walked (p : Plan) (w : Walk) (i : ℕ) : Type 0 where
-  pub size : length (w .words) ≡ 32
+pub record Walked (p : Plan) (ws : List ℕ) (w : Walk) (i : ℕ) : Type 0 where
+  pub size : length ws ≡ 32
   pub now : w .frame ≡ w .time % p .frames
   pub next : i ≤ p .«task_count»
   pub ran : (j : ℕ) → j < i → taskAt p j .frame ≤ w .frame
   pub left : (j : ℕ) → i ≤ j → j < p .«task_count» → w .frame ≤ taskAt p j .frame
-  pub words : (g : ℕ) → g < p .frames → (c : ℕ) → bit (getD (w .words) c 0) g ≡ (ltb g (w .time) && getD (knowTasks p (w .frame) i (known p g (w .time - g))) c false)
+  pub words : (g : ℕ) → g < p .frames → (c : ℕ) → bit (getD ws c 0) g ≡ (ltb g (w .time) && getD (knowTasks p (w .frame) i (known p g (w .time - g))) c false)
   pub low : w .low < p .frames
   pub passed : (g : ℕ) → g < w .low → All (p .cells) (known p g (w .longest + 1))
   pub behind : w .low < w .time → w .time - w .low ≤ w .longest
@@ -126,7 +126,7 @@ module _ (p : Plan) (s : Shape p) where
   pub bound-small : p .frames * p .cells ≤ 512
   bound-small = mul-le-mul (s .frames-le) (s .cells-le)
 
-  pub walked-start : Walked p walkStart 0
+  pub walked-start : Walked p wordsStart walkStart 0
   walked-start =
       record {
         size = refl;
@@ -149,9 +149,9 @@ module _ (p : Plan) (s : Shape p) where
           (λ t. List·getD-eq-default (replicate 32 0) 0 {n = c} (ltb-false c 32 t))
 
   -- a task of the frame
-  module _ (w : Walk) (i : ℕ) (h : Walked p w i) (l : i < p .«task_count») (here : taskAt p i .frame ≡ w .frame) where
+  module _ (ws : List ℕ) (w : Walk) (i : ℕ) (h : Walked p ws w i) (l : i < p .«task_count») (here : taskAt p i .frame ≡ w .frame) where
     task-words : (g : ℕ) → g < p .frames → (c : ℕ)
-        → bit (getD (set (w .words) (taskAt p i .target) (readWord (taskAt p i .op) (taskAt p i .target) (2 ^ min (w .time) (p .frames) - 1) (w .words))) c 0) g
+        → bit (getD (set ws (taskAt p i .target) (readWord (taskAt p i .op) (taskAt p i .target) (2 ^ min (w .time) (p .frames) - 1) ws)) c 0) g
         ≡ (ltb g (w .time) && getD (knowTask (w .frame) (taskAt p i) (knowTasks p (w .frame) i (known p g (w .time - g)))) c false)
     task-words g gl c = split (eqb c (t .target)) (λ e. rw (eqb-true c (t .target) e) same) (λ e. other (eqb-false c (t .target) e))
       where
@@ -162,28 +162,28 @@ module _ (p : Plan) (s : Shape p) where
         ks = knowTasks p (w .frame) i (known p g (w .time - g))
 
         v : ℕ
-        v = readWord (t .op) (t .target) (2 ^ min (w .time) (p .frames) - 1) (w .words)
+        v = readWord (t .op) (t .target) (2 ^ min (w .time) (p .frames) - 1) ws
 
         full : length ks ≡ 32
         full = tasks-length p (w .frame) i (known p g (w .time - g)) ∙ known-length p g (w .time - g)
 
-        same : bit (getD (set (w .words) (t .target) v) (t .target) 0) g ≡ (ltb g (w .time) && getD (knowTask (w .frame) t ks) (t .target) false)
+        same : bit (getD (set ws (t .target) v) (t .target) 0) g ≡ (ltb g (w .time) && getD (knowTask (w .frame) t ks) (t .target) false)
         same =
-            ap (λ (x : ℕ). bit x g) (getD-set-same (w .words) (t .target) v 0 (omega (arith, h .size, s .target i l, s .cells-le)))
-            ∙ read-bit (t .op) (t .target) _ g (ltb g (w .time)) (w .words) ks (h .words g gl) (begun-bit (p .frames) (w .time) g gl)
+            ap (λ (x : ℕ). bit x g) (getD-set-same ws (t .target) v 0 (omega (arith, h .size, s .target i l, s .cells-le)))
+            ∙ read-bit (t .op) (t .target) _ g (ltb g (w .time)) ws ks (h .words g gl) (begun-bit (p .frames) (w .time) g gl)
             ∙ ap (λ (b : Bool). ltb g (w .time) && b) (sym (task-target (w .frame) t ks here (omega (arith, full, s .target i l, s .cells-le))))
 
-        other : (c ≡ t .target → ⊥) → bit (getD (set (w .words) (t .target) v) c 0) g ≡ (ltb g (w .time) && getD (knowTask (w .frame) t ks) c false)
+        other : (c ≡ t .target → ⊥) → bit (getD (set ws (t .target) v) c 0) g ≡ (ltb g (w .time) && getD (knowTask (w .frame) t ks) c false)
         other n =
-            ap (λ (x : ℕ). bit x g) (getD-set-other (w .words) (t .target) c v 0 n)
+            ap (λ (x : ℕ). bit x g) (getD-set-other ws (t .target) c v 0 n)
             ∙ h .words g gl c
             ∙ ap (λ (b : Bool). ltb g (w .time) && b) (sym (task-other (w .frame) t ks c n))
 
-    pub walked-task : Walked p (afterTask (2 ^ min (w .time) (p .frames) - 1) w (taskAt p i)) (i + 1)
+    pub walked-task : Walked p (afterTask (2 ^ min (w .time) (p .frames) - 1) ws (taskAt p i)) w (i + 1)
     unfolding afterTask knowTasks
     walked-task =
         record {
-          size = length-set (w .words) _ _ ∙ h .size;
+          size = length-set ws _ _ ∙ h .size;
           now = h .now;
           next = omega arith;
           ran = λ j m. split (eqb j i) (λ e. rw (eqb-true j i e) (omega (arith, here))) (λ e. h .ran j (omega (arith, eqb-false j i e)));
@@ -198,9 +198,9 @@ module _ (p : Plan) (s : Shape p) where
 
   -- the votes, where no task of the frame is left
   module _
-      (w r : Walk) (i : ℕ) (h : Walked p w i)
+      (ws : List ℕ) (w : Walk) (vs : List ℕ) (r : Walk) (i : ℕ) (h : Walked p ws w i)
       (rest : (j : ℕ) → i ≤ j → j < p .«task_count» → taskAt p j .frame ≡ w .frame → ⊥)
-      (q : Closed (p .voted) (p .frames) (p .cells) w r)
+      (q : Closed (p .voted) (p .frames) (p .cells) ws w vs r)
     where
       frame-lt : w .frame < p .frames
       frame-lt = rw (h .now) (mod-lt (w .time) (s .frames-pos))
@@ -247,19 +247,19 @@ module _ (p : Plan) (s : Shape p) where
 
       -- a cell's word after the votes
       voted-bit : (g c : ℕ) → g < p .frames → c < p .cells
-          → bit (getD (r .words) c 0) g ≡ ((ltb g (w .time) && getD (tasked g) c false) || (votedIn p (w .frame) c && ltb g (w .time + 1)))
+          → bit (getD vs c 0) g ≡ ((ltb g (w .time) && getD (tasked g) c false) || (votedIn p (w .frame) c && ltb g (w .time + 1)))
       unfolding withVotes votedIn tasked
       voted-bit g c gl cl =
           ap (λ (ws : List ℕ). bit (getD ws c 0) g) (q .words)
-          ∙ ap (λ (x : ℕ). bit x g) (fill-in _ (p .cells) (w .words) c 0 cl (omega (arith, h .size, s .cells-le)))
-          ∙ bit-or (getD (w .words) c 0) _ g
+          ∙ ap (λ (x : ℕ). bit x g) (fill-in _ (p .cells) ws c 0 cl (omega (arith, h .size, s .cells-le)))
+          ∙ bit-or (getD ws c 0) _ g
           ∙ rw (h .words g gl c, cond-bit (getD (p .voted) (32 * w .frame + c) false) (2 ^ min (w .time + 1) (p .frames) - 1) g, begun-bit (p .frames) (w .time + 1) g gl)
 
-      past-bit : (g c : ℕ) → g < p .frames → p .cells ≤ c → bit (getD (r .words) c 0) g ≡ (ltb g (w .time) && getD (tasked g) c false)
+      past-bit : (g c : ℕ) → g < p .frames → p .cells ≤ c → bit (getD vs c 0) g ≡ (ltb g (w .time) && getD (tasked g) c false)
       unfolding withVotes tasked
       past-bit g c gl cl =
           ap (λ (ws : List ℕ). bit (getD ws c 0) g) (q .words)
-          ∙ ap (λ (x : ℕ). bit x g) (fill-out _ (p .cells) (w .words) c 0 cl)
+          ∙ ap (λ (x : ℕ). bit x g) (fill-out _ (p .cells) ws c 0 cl)
           ∙ h .words g gl c
 
       either : (x v : Bool) → (x || (v && true)) ≡ (v || x)
@@ -277,7 +277,7 @@ module _ (p : Plan) (s : Shape p) where
       or-none false = refl
 
       Says : ℕ → ℕ → Type 0
-      Says g c = bit (getD (r .words) c 0) g ≡ (ltb g (w .time + 1) && getD (known p g (w .time + 1 - g)) c false)
+      Says g c = bit (getD vs c 0) g ≡ (ltb g (w .time + 1) && getD (known p g (w .time + 1 - g)) c false)
 
       says-later : (g c : ℕ) → g < p .frames → g < w .time → Says g c
       unfolding Says
@@ -317,19 +317,19 @@ module _ (p : Plan) (s : Shape p) where
 
       -- ---- the first frames from which all is known
 
-      whole-known : (g : ℕ) → g < p .frames → whole (r .words) (p .cells) g ≡ true → (g < w .time + 1) × All (p .cells) (known p g (w .time + 1 - g))
+      whole-known : (g : ℕ) → g < p .frames → whole vs (p .cells) g ≡ true → (g < w .time + 1) × All (p .cells) (known p g (w .time + 1 - g))
       unfolding whole Says
       whole-known g gl e =
           let each : (c : ℕ) → c < p .cells → (ltb g (w .time + 1) && getD (known p g (w .time + 1 - g)) c false) ≡ true =
-          λ c cl. sym (says g c gl) ∙ allBelow-at (λ x. bit (getD (r .words) x 0) g) (p .cells) c cl e in
+          λ c cl. sym (says g c gl) ∙ allBelow-at (λ x. bit (getD vs x 0) g) (p .cells) c cl e in
           (ltb-true g (w .time + 1) (and-left _ _ (each 0 (s .cells-pos))), λ c cl. and-right (ltb g (w .time + 1)) _ (each c cl))
 
-      not-whole : (g : ℕ) → g < p .frames → g < w .time + 1 → whole (r .words) (p .cells) g ≡ false → allKnown p (w .time + 1 - g) ≡ false
+      not-whole : (g : ℕ) → g < p .frames → g < w .time + 1 → whole vs (p .cells) g ≡ false → allKnown p (w .time + 1 - g) ≡ false
       unfolding whole Says
       not-whole g gl l e =
           split (allKnown p (w .time + 1 - g))
           (λ t. absurd (clash
-          (allBelow-all (λ x. bit (getD (r .words) x 0) g) (p .cells) (λ c cl. says g c gl ∙ and-both (lt-ltb g (w .time + 1) l) (allKnown-at p (w .time + 1 - g) t g c gl cl)))
+          (allBelow-all (λ x. bit (getD vs x 0) g) (p .cells) (λ c cl. says g c gl ∙ and-both (lt-ltb g (w .time + 1) l) (allKnown-at p (w .time + 1 - g) t g c gl cl)))
           e))
           (λ t. t)
 
@@ -368,19 +368,19 @@ module _ (p : Plan) (s : Shape p) where
           (λ k l m. split (allKnown p k) (λ t. absurd (clash (allKnown-stays p s k (r .longest) l (omega arith) t) (next-unknown (omega arith)))) (λ t. t))
 
       next-words : (j : ℕ) → ((k : ℕ) → k < j → taskAt p k .frame ≡ r .frame → ⊥) → (g : ℕ) → g < p .frames → (c : ℕ)
-          → bit (getD (r .words) c 0) g ≡ (ltb g (r .time) && getD (knowTasks p (r .frame) j (known p g (r .time - g))) c false)
+          → bit (getD vs c 0) g ≡ (ltb g (r .time) && getD (knowTasks p (r .frame) j (known p g (r .time - g))) c false)
       unfolding Says
       next-words j n g gl c = rw (tasks-none p (r .frame) (known p g (r .time - g)) j n, q .time) (says g c gl)
 
-      next-size : length (r .words) ≡ 32
+      next-size : length vs ≡ 32
       unfolding withVotes
-      next-size = ap length (q .words) ∙ fill-length _ (p .cells) (w .words) ∙ h .size
+      next-size = ap length (q .words) ∙ fill-length _ (p .cells) ws ∙ h .size
 
       next-behind : r .low < p .frames → r .low < r .time → r .time - r .low ≤ r .longest
       next-behind l = rw (q .time, q .longest) (longer-behind (w .longest) (r .low) (p .frames) (w .time + 1) l)
 
       -- the next frame of the cycle
-      pub walked-next : r .low < p .frames → (r .frame ≡ 0 → ⊥) → Walked p r i
+      pub walked-next : r .low < p .frames → (r .frame ≡ 0 → ⊥) → Walked p vs r i
       walked-next l n =
           let f : r .frame ≡ w .frame + 1 = split (ltb (w .frame + 1) (p .frames)) (λ t. q .next (ltb-true _ _ t)) (λ t. absurd (n (q .wrap (ltb-false _ _ t)))) in
           record {
@@ -398,7 +398,7 @@ module _ (p : Plan) (s : Shape p) where
           }
 
       -- the first frame of the next cycle
-      pub walked-wrap : r .low < p .frames → r .frame ≡ 0 → Walked p r 0
+      pub walked-wrap : r .low < p .frames → r .frame ≡ 0 → Walked p vs r 0
       walked-wrap l f =
           record {
             size = next-size;
@@ -415,8 +415,8 @@ module _ (p : Plan) (s : Shape p) where
           }
 
   -- so many frames were run that there is no period
-  pub walked-none : (w : Walk) (i : ℕ) → Walked p w i → p .frames * p .cells + p .frames ≤ w .time → period p ≡ 0
-  walked-none w i h l =
+  pub walked-none : (ws : List ℕ) (w : Walk) (i : ℕ) → Walked p ws w i → p .frames * p .cells + p .frames ≤ w .time → period p ≡ 0
+  walked-none ws w i h l =
       let b : w .time - w .low ≤ w .longest = h .behind (omega (arith, h .low)) in
       let m : 1 + p .frames * p .cells ≤ w .longest = omega (arith, h .low) in
       period-none p s (w .longest) m (h .unknown (omega arith))

@@ -16,7 +16,10 @@ use Rattle.plan.specs.declared.step.Walk.{Walk}
 use Rattle.plan.specs.Limits.{mostCells}
 
 abbrev pub walkStart : Walk
-walkStart = record { words = replicate mostCells 0; low = 0; longest = 0; time = 0; frame = 0 }
+walkStart = record { low = 0; longest = 0; time = 0; frame = 0 }
+
+abbrev pub wordsStart : List ℕ
+wordsStart = replicate mostCells 0
 
 -- the first frames from which all cells that a task reads are known
 unfoldable pub readWord : Op → ℕ → ℕ → List ℕ → ℕ
@@ -27,15 +30,9 @@ readWord (Scale a factor) target begun ws = getD ws a 0
 readWord (Limit a low high) target begun ws = getD ws a 0
 readWord (Wind a law) target begun ws = bitAnd (getD ws a 0) (getD ws target 0)
 
-unfoldable pub afterTask : ℕ → Walk → Task → Walk
-afterTask begun w t =
-    record {
-      words = set (w .words) (t .target) (readWord (t .op) (t .target) begun (w .words));
-      low = w .low;
-      longest = w .longest;
-      time = w .time;
-      frame = w .frame;
-    }
+-- the words after a task
+unfoldable pub afterTask : ℕ → List ℕ → Task → List ℕ
+afterTask begun ws t = set ws (t .target) (readWord (t .op) (t .target) begun ws)
 
 -- the words after the votes of a frame
 unfoldable pub withVotes : List Bool → ℕ → ℕ → ℕ → List ℕ → List ℕ
@@ -56,13 +53,13 @@ pub record Unset (w low high r : ℕ) : Type 0 where
   pub passed : (g : ℕ) → low ≤ g → g < r → bit w g ≡ true
   pub stopped : r < high → bit w r ≡ false
 
--- the votes of the frame are in, and it is run
-pub record Closed (voted : List Bool) (frames cells : ℕ) (w r : Walk) : Type 0 where
-  pub words : r .words ≡ withVotes voted (w .frame) cells (2 ^ min (w .time + 1) frames - 1) (w .words)
+-- the votes of the frame are in, and it is run: from words ws and walk w to vs and r
+pub record Closed (voted : List Bool) (frames cells : ℕ) (ws : List ℕ) (w : Walk) (vs : List ℕ) (r : Walk) : Type 0 where
+  pub words : vs ≡ withVotes voted (w .frame) cells (2 ^ min (w .time + 1) frames - 1) ws
   pub from : w .low ≤ r .low
   pub to : r .low ≤ frames
-  pub passed : (g : ℕ) → w .low ≤ g → g < r .low → whole (r .words) cells g ≡ true
-  pub stopped : r .low < frames → whole (r .words) cells (r .low) ≡ false
+  pub passed : (g : ℕ) → w .low ≤ g → g < r .low → whole vs cells g ≡ true
+  pub stopped : r .low < frames → whole vs cells (r .low) ≡ false
   pub longest : r .longest ≡ longer (w .longest) (r .low) frames (w .time + 1)
   pub time : r .time ≡ w .time + 1
   pub next : w .frame + 1 < frames → r .frame ≡ w .frame + 1

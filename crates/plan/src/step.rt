@@ -1,7 +1,7 @@
 // The recovery period of a record that is of form. All first frames are advanced together: in the word of a cell, bit g says
 // whether the cell is known from first frame g.
 ghost use mathlib.Core.Path.{_≡_};
-ghost use mathlib.Core.Bool.{true};
+ghost use mathlib.Core.Bool.{true, cond};
 ghost use Prim.Native.Nat.{ℕ, _+_, _-_, _^_, _<_, _≤_, min};
 ghost use lib.ListN.{getD};
 ghost use Rattle.array.specs.Index.{allBelow};
@@ -9,14 +9,13 @@ ghost use Rattle.array.specs.Bit.{bit};
 ghost use Rattle.plan.specs.Limits.{mostFrames, mostCells};
 ghost use Rattle.plan.specs.Known.{period as periodOf};
 ghost use Rattle.plan.specs.Accepted.{wellFormed};
-ghost use Rattle.plan.specs.Walk.{walkStart, readWord, afterTask, withVotes, longer, Unset, Closed};
+ghost use Rattle.plan.specs.Walk.{readWord, afterTask, withVotes, longer, Unset, Closed};
 use super::Op;
 use super::Plan;
 use super::Task;
 
 // The first frames 0, 1, .. are begun in this order, one in each frame, and advanced frame by frame.
 pub struct Walk {
-    pub words: [u16; Plan::CELLS],
     // Up to it, everything is known from each first frame after longest + 1 frames; from it, not after longest.
     pub low: usize,
     pub longest: usize,
@@ -62,17 +61,21 @@ fn read_word(op: Op, target: usize, begun: u16, words: &[u16]) -> u16
     }
 }
 
-fn with_task(w: Walk, task: Task, begun: u16) -> Walk
-    ensures { λ r. ⌜ r ≡ afterTask begun w task ⌝ }
+// A task's target becomes known from the first frames from which all cells that it reads are.
+fn put_known(words: &mut [u16; Plan::CELLS], task: Task, begun: u16)
+    requires { ⌜ task .target < mostCells ⌝ }
+    ensures { λ _. ⌜ now (words .exit) ≡ afterTask begun (now (words .entry)) task ⌝ }
 {
     let op = task.op;
     let target = task.target;
-    let known = read_word(op, target, begun, &w.words);
-    let mut next = w;
-    if target < Plan::CELLS {
-        next.words[target] = known;
-    }
-    next
+    let known = read_word(op, target, begun, words);
+    words[target] = known;
+}
+
+fn if_voted(voted: bool, begun: u16) -> u16
+    ensures { λ r. ⌜ r ≡ cond voted begun 0 ⌝ }
+{
+    if voted { begun } else { 0 }
 }
 
 // The cells below `cells` that are voted in the frame become known from each first frame that is begun.
@@ -88,9 +91,7 @@ fn add_votes(
 {
     let mut c: usize = 0;
     while c < cells {
-        if voted[Plan::CELLS * frame + c] {
-            words[c] = words[c] | begun;
-        }
+        words[c] = words[c] | if_voted(voted[Plan::CELLS * frame + c], begun);
         c += 1;
     }
 }
@@ -146,33 +147,21 @@ fn after(frame: usize, frames: usize) -> usize
 }
 
 // The votes of the frame, and the frame is run.
-fn closed(w: Walk, voted: &[bool; Plan::VOTES], frames: usize, cells: usize) -> Walk
+fn closed(w: Walk, words: &mut [u16; Plan::CELLS], voted: &[bool; Plan::VOTES], frames: usize, cells: usize) -> Walk
     requires { ⌜ (w .frame < frames) × (frames ≤ mostFrames) × (cells ≤ mostCells) × (w .low ≤ frames) × (w .time < 1024) ⌝ }
-    ensures { λ r. ⌜ Closed (now (voted .entry)) frames cells w r ⌝ }
+    ensures { λ r. ⌜ Closed (now (voted .entry)) frames cells (now (words .entry)) w (now (words .exit)) r ⌝ }
 {
     let frame = w.frame;
     let ran = w.time + 1;
     let begun = ones(least(ran, frames));
-    let mut next = w;
-    add_votes(&mut next.words, voted, frame, cells, begun);
-    let whole = known_by_all(&next.words, cells);
+    add_votes(words, voted, frame, cells, begun);
+    let whole = known_by_all(words, cells);
     let low = first_unset(whole, w.low, frames);
-    next.low = low;
-    next.longest = still_longer(w.longest, low, frames, ran);
-    next.time = ran;
-    next.frame = after(frame, frames);
-    next
-}
-
-fn start() -> Walk
-    ensures { λ r. ⌜ r ≡ walkStart ⌝ }
-{
     Walk {
-        words: [0; Plan::CELLS],
-        low: 0,
-        longest: 0,
-        time: 0,
-        frame: 0,
+        low,
+        longest: still_longer(w.longest, low, frames, ran),
+        time: ran,
+        frame: after(frame, frames),
     }
 }
 
@@ -185,18 +174,24 @@ pub fn period(p: Plan) -> usize
     let cells = p.cells;
     let count = p.task_count;
     let bound = frames * cells + frames;
-    let mut w = start();
+    let mut words = [0u16; Plan::CELLS];
+    let mut w = Walk {
+        low: 0,
+        longest: 0,
+        time: 0,
+        frame: 0,
+    };
     let mut i: usize = 0;
     while w.time < bound {
         if i < count {
             let t = p.tasks[i];
             if t.frame == w.frame {
-                w = with_task(w, t, ones(least(w.time, frames)));
+                put_known(&mut words, t, ones(least(w.time, frames)));
                 i += 1;
                 continue;
             }
         }
-        w = closed(w, &p.voted, frames, cells);
+        w = closed(w, &mut words, &p.voted, frames, cells);
         if w.low == frames {
             return w.longest + 1;
         }

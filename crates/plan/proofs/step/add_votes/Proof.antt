@@ -1,12 +1,11 @@
 use mathlib.Core.Path.{_≡_, refl, sym, _∙_, subst}
-use mathlib.Core.Logic.{⊎-elim}
 use Prim.Native.Nat.{ℕ, _≤_, _-_}
 use native.Mathlib.Omega.{arith}
 use borrow.Author.Needs.{needs}
 use Rattle.array.specs.Index.{fill}
 use Rattle.array.proofs.PlacesLaws.{fill-none}
 use Rattle.plan.specs.Walk.{withVotes}
-use Rattle.plan.proofs.WalkLaws.{votedWord, votes-hit, votes-miss}
+use Rattle.plan.proofs.WalkLaws.{votedWord, votes-more}
 use Rattle.plan.proofs.step.add_votes.Statement.{statement}
 use Rattle.plan.proofs.step.add_votes.Tie as tie
 
@@ -21,19 +20,13 @@ loop-holds : tie.Need-loop-holds Inv-loop μ-loop
 loop-holds c = (search needs, sym (fill-none _ _))
 
 loop-again : tie.Need-loop-again Inv-loop μ-loop
-loop-again c =
-    let l = c .before .before .before in
-    let a = l .before .args in
-    let vs = a .voted .now in
-    let ws = a .words .now in
-    ⊎-elim
-    (λ w. (search needs, w .2 ∙ votes-hit vs (a .frame) (a .begun) ws (l .loop .words) (l .loop .c) (l .loop .inv .1) (w .0 .taken)))
-    (λ w. (search needs, w .1 ∙ votes-miss vs (a .frame) (a .begun) ws (l .loop .words) (l .loop .c) (l .loop .inv .1) (w .0 .left)))
-    (c .if1 .came)
+loop-again c = 
+    let a = c .before .before .before .before .before .args in
+    (search needs, votes-more (a .voted .now) (a .frame) (a .begun) (a .words .now) (c .before .before .before .before .loop .words) (c .before .before .before .before .loop .c) (c .if-voted .result) (c .before .before .before .before .loop .inv .1) (c .if-voted .ensures))
 
 returns : tie.Need-returns Inv-loop μ-loop
 unfolding withVotes
-returns c =
+returns c = 
     let l = c .before in
     let e : l .loop .c ≡ l .before .args .cells = omega arith in
     subst (λ (n : ℕ). l .loop .words ≡ fill (votedWord (l .before .args .voted .now) (l .before .args .frame) (l .before .args .begun) (l .before .args .words .now)) n (l .before .args .words .now)) e (l .loop .inv .1)
@@ -50,6 +43,7 @@ add-votes-spec =
     (λ c. search needs)
     (λ c. search needs)
     (λ c. search needs)
+    (λ c κs. search needs)
     (λ c. search needs)
     (λ c. search needs)
     (λ c. search needs)

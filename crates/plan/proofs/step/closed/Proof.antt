@@ -8,12 +8,12 @@ use Rattle.plan.proofs.step.closed.Tie as tie
 
 returns : tie.Need-returns
 unfolding whole
-returns c =
-    let a = c .before .before .before .before .before .before .before .before .before .before .before .args in
+returns c = 
+    let a = c .before .before .before .before .before .before .before .before .before .before .args in
     let u = c .before .before .first-unset .ensures in
     let k = c .before .before .before .known-by-all .ensures in
     record {
-      words = c .before .before .before .before .before .before .add-votes .ensures ∙ ap (λ (b : ℕ). withVotes (a .voted .now) (a .w .frame) (a .cells) b (a .w .words)) (c .before .before .before .before .before .before .before .before .ones .ensures ∙ ap (λ (n : ℕ). 2 ^ n - 1) (c .before .before .before .before .before .before .before .before .before .least .ensures));
+      words = c .before .before .before .before .before .add-votes .ensures ∙ ap (λ (b : ℕ). withVotes (a .voted .now) (a .w .frame) (a .cells) b (a .words .now)) (c .before .before .before .before .before .before .before .ones .ensures ∙ ap (λ (n : ℕ). 2 ^ n - 1) (c .before .before .before .before .before .before .before .before .least .ensures));
       from = u .from;
       to = u .to;
       passed = λ g l h. sym (k g (omega (arith, u .to))) ∙ u .passed g l h;

@@ -1,0 +1,12 @@
+pub mod ReaderLaws
+pub mod LineLaws
+pub mod RefusedLaws
+pub mod WriterLaws
+pub mod MeantLaws
+pub mod PartLaws
+pub mod WrittenLaws
+pub mod ToldLaws
+pub mod BackLaws
+pub mod TextLaws
+pub mod StoreLaws
+pub mod ReadLaws

@@ -1,0 +1,14 @@
+use Rattle.plan_text.specs.Refused.{afterCells}
+use mathlib.Core.Path.{refl}
+use Rattle.plan_text.proofs.reading.after_cells.Statement.{statement}
+use Rattle.plan_text.proofs.reading.after_cells.Tie as tie
+use Rattle.plan_text.proofs.reading.after_cells.Reads as reads
+use Rattle.plan_text.proofs.reading.after_cells.Lts as lts
+
+-- src/reading.rt:79:1
+returns : tie.Need-returns
+unfolding afterCells
+returns c = refl
+
+pub after-cells-spec : {M : Type 1} → statement M
+after-cells-spec = tie.close (tie.spec returns)

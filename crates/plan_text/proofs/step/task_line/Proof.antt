@@ -1,0 +1,11 @@
+use Rattle.plan_text.specs.Written.{taskLine}
+use borrow.Author.Needs.{needs}
+use Rattle.plan_text.proofs.step.task_line.Statement.{statement}
+use Rattle.plan_text.proofs.step.task_line.Tie as tie
+
+returns : tie.Need-returns
+unfolding taskLine
+returns c = c .op-line .ensures
+
+pub task-line-spec : {M : Type 1} → statement M
+task-line-spec = tie.close (tie.spec (λ c κs. search needs) returns)

@@ -1,0 +1,50 @@
+use mathlib.Core.Path.{_≡_, ap, _∙_}
+use mathlib.Core.List.{[], _∷_}
+use Prim.Native.Nat.{ℕ, _-_, _*_, _≤_}
+use native.Mathlib.Omega.{arith}
+use borrow.Author.Needs.{needs}
+use lib.ListN.{getD}
+use Rattle.plan_text.specs.Line.{lineSize}
+use Rattle.plan_text.specs.Reader.{placed}
+use Rattle.plan_text.proofs.WriterLaws.{rowsOf, lines-none, lines-size, lines-more}
+use Rattle.plan_text.proofs.step.write_actuators.Statement.{statement}
+use Rattle.plan_text.proofs.step.write_actuators.Tie as tie
+
+abbrev Inv-loop : tie.InvT-loop
+Inv-loop table count out₀ from i₀ out i = (i ≤ count) × (out ≡ placed out₀ (lineSize * from) (rowsOf (λ k. 30 ∷ k ∷ getD table k 0 ∷ 0 ∷ 0 ∷ 0 ∷ []) i))
+
+abbrev μ-loop : tie.MeasureT-loop
+μ-loop table count out₀ from i₀ out i = count - i
+
+loop-holds : tie.Need-loop-holds Inv-loop μ-loop
+loop-holds c = (search needs, lines-none (c .before .args .out .now) (c .before .args .from) (λ k. 30 ∷ k ∷ getD (c .before .args .table .now) k 0 ∷ 0 ∷ 0 ∷ 0 ∷ []))
+
+write-line-requires : tie.Need-write-line-requires Inv-loop μ-loop
+write-line-requires c κs = (omega (arith, lines-size (c .before .before .before .before .before .before .args .out .now) (c .before .before .before .before .before .before .args .from) (λ k. 30 ∷ k ∷ getD (c .before .before .before .before .before .before .args .table .now) k 0 ∷ 0 ∷ 0 ∷ 0 ∷ []) (c .before .before .before .before .loop .i) (c .before .before .before .before .loop .out) (c .before .before .before .before .loop .inv .1) (omega (arith, c .before .before .before .before .before .before .pre))), omega (arith, c .before .before .before .before .before .before .pre))
+
+loop-again : tie.Need-loop-again Inv-loop μ-loop
+loop-again c = (search needs, lines-more _ _ (λ k. 30 ∷ k ∷ getD (c .before .before .before .before .before .before .before .before .before .args .table .now) k 0 ∷ 0 ∷ 0 ∷ 0 ∷ []) (c .before .before .before .before .before .before .before .loop .i) (c .before .before .before .before .before .before .before .loop .out) (c .before .before .before .before .before .before .before .loop .inv .1) _ _ (omega (arith, c .before .before .before .before .before .before .before .before .before .pre)) (c .before .before .before .numbers .ensures) (c .before .before .write-line .ensures))
+
+same-length : tie.Need-same-length Inv-loop μ-loop
+same-length c = lines-size (c .before .before .before .args .out .now) (c .before .before .before .args .from) (λ k. 30 ∷ k ∷ getD (c .before .before .before .args .table .now) k 0 ∷ 0 ∷ 0 ∷ 0 ∷ []) (c .before .loop .i) (c .before .loop .out) (c .before .loop .inv .1) (omega (arith, c .before .before .before .pre))
+
+returns : tie.Need-returns Inv-loop μ-loop
+returns c = let e : c .before .loop .i ≡ c .before .before .before .args .count = omega arith in c .before .loop .inv .1 ∙ ap (λ (n : ℕ). placed (c .before .before .before .args .out .now) (lineSize * c .before .before .before .args .from) (rowsOf (λ k. 30 ∷ k ∷ getD (c .before .before .before .args .table .now) k 0 ∷ 0 ∷ 0 ∷ 0 ∷ []) n)) e
+
+pub write-actuators-spec : {M : Type 1} → statement M
+write-actuators-spec =
+    tie.close
+    (tie.spec
+    Inv-loop
+    μ-loop
+    loop-holds
+    (λ c. search needs)
+    (λ c. search needs)
+    (λ c. search needs)
+    (λ c κs. search needs)
+    write-line-requires
+    (λ c. search needs)
+    (λ c. search needs)
+    loop-again
+    same-length
+    returns)

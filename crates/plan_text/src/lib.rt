@@ -1,0 +1,187 @@
+// Reading and writing a plan text.
+ghost use mathlib.Core.Path.{_≡_};
+ghost use Prim.Native.Nat.{_<_, _≤_, _*_};
+ghost use mathlib.Core.Bool.{true};
+ghost use mathlib.Core.Option.{some};
+ghost use lib.ListN.{length};
+ghost use Rattle.answer.specs.declared.Answer.the-variants.{Done};
+ghost use Rattle.plan.specs.Limits.{mostFrames, mostCells, mostActuators};
+ghost use Rattle.plan_text.specs.Line.{lineSize, lineCount, numbersAt, cellKind, voteKind, actuatorKind};
+ghost use Rattle.plan_text.specs.Meant.{zeroPlan, initialWith, votedWith, actuatorsWith};
+ghost use Rattle.plan_text.specs.Refused.{lengthOk, isHeader};
+ghost use Rattle.plan_text.specs.Answers.{readAnswer, writeAnswer, writePlace};
+ghost use Rattle.plan_text.specs.Reader.{numbersIn};
+use answer::Answer;
+use plan::Plan;
+use plan::Op;
+use plan::Task;
+use reading::Line;
+use reading::LineRead;
+
+mod reading;
+pub mod step;
+
+pub struct PlanRead {
+    pub answer: Answer,
+    pub plan: Plan,
+}
+
+pub struct TextWritten {
+    pub answer: Answer,
+    pub count: usize,
+}
+
+fn zero_plan() -> Plan
+    ensures { λ r. ⌜ r ≡ zeroPlan ⌝ }
+{
+    let unused = Task {
+        frame: 0,
+        target: 0,
+        op: Op::Take(0),
+    };
+    Plan {
+        nodes: 0,
+        frames: 0,
+        cells: 0,
+        sensors: 0,
+        actuators: 0,
+        initial: [0; Plan::CELLS],
+        task_count: 0,
+        tasks: [unused; Plan::TASKS],
+        voted: [false; Plan::VOTES],
+        actuator_cell: [0; Plan::ACTUATORS],
+    }
+}
+
+fn refused(answer: Answer) -> PlanRead
+    ensures { λ r. ⌜ (r .answer ≡ answer) × (r .plan ≡ zeroPlan) ⌝ }
+{
+    let plan = zero_plan();
+    PlanRead { answer, plan }
+}
+
+fn length_ok(n: usize) -> bool
+    ensures { λ r. ⌜ r ≡ lengthOk n ⌝ }
+{
+    (0 < n) & (n <= 35169) & (n % 57 == 0)
+}
+
+// A line's entry in the record, if it is of that kind.
+fn store_initial(initial: &mut [u64; Plan::CELLS], l: Line)
+    requires { ⌜ (l .kind ≡ cellKind → l .second < mostCells) ⌝ }
+    ensures { λ _. ⌜ now (initial .exit) ≡ initialWith (numbersIn l) (now (initial .entry)) ⌝ }
+{
+    if l.kind == 1 {
+        let at = l.second;
+        initial[at] = l.fifth;
+    }
+}
+
+fn store_vote(voted: &mut [bool; Plan::VOTES], l: Line)
+    requires { ⌜ (l .kind ≡ voteKind → (l .second < mostFrames) × (l .third < mostCells)) ⌝ }
+    ensures { λ _. ⌜ now (voted .exit) ≡ votedWith (numbersIn l) (now (voted .entry)) ⌝ }
+{
+    if l.kind == 20 {
+        let at = Plan::CELLS * l.second + l.third;
+        voted[at] = true;
+    }
+}
+
+fn store_actuator(table: &mut [usize; Plan::ACTUATORS], l: Line)
+    requires { ⌜ (l .kind ≡ actuatorKind → l .second < mostActuators) ⌝ }
+    ensures { λ _. ⌜ now (table .exit) ≡ actuatorsWith (numbersIn l) (now (table .entry)) ⌝ }
+{
+    if l.kind == 30 {
+        let at = l.second;
+        table[at] = l.third;
+    }
+}
+
+// The lines after the header h, of a text whose length and header are right.
+fn read_lines(text: &[u8], h: Line) -> PlanRead
+    requires { ⌜ (lengthOk (length (now text)) ≡ true) × (numbersAt (now text) 0 ≡ some (numbersIn h)) × (isHeader (numbersIn h) ≡ true) ⌝ }
+    ensures { λ r. ⌜ r ≡ readAnswer (now (text .entry)) ⌝ }
+{
+    let lines = text.len() / 57;
+    let mut plan = zero_plan();
+    plan.nodes = h.second;
+    plan.frames = h.third;
+    plan.cells = h.fourth;
+    plan.sensors = h.fifth as usize;
+    plan.actuators = h.sixth as usize;
+    let mut prev = h;
+    let mut i: usize = 1;
+    while i < lines {
+        let at = 57 * i;
+        let LineRead::Whole(l) = reading::read_line(&text[at..at + 57]) else {
+            return refused(Answer::Malformed(i + 1));
+        };
+        if !reading::in_order(h, i - 1, prev, l) {
+            return refused(Answer::OutOfOrder(i + 1));
+        }
+        if !reading::in_range(h, l) {
+            return refused(Answer::OutOfRange(i + 1));
+        }
+        store_initial(&mut plan.initial, l);
+        store_vote(&mut plan.voted, l);
+        store_actuator(&mut plan.actuator_cell, l);
+        if reading::is_task(l.kind) {
+            let count = plan.task_count;
+            let t = reading::task_of(l);
+            if count < Plan::TASKS {
+                plan.tasks[count] = t;
+            }
+            plan.task_count = count + 1;
+        }
+        prev = l;
+        i += 1;
+    }
+    if !reading::is_last(h, prev) {
+        return refused(Answer::OutOfOrder(lines + 1));
+    }
+    if plan::step::period(plan) == 0 {
+        return refused(Answer::Unrecoverable);
+    }
+    PlanRead {
+        answer: Answer::Done,
+        plan,
+    }
+}
+
+pub fn read(text: &[u8]) -> PlanRead
+    ensures { λ r. ⌜ r ≡ readAnswer (now (text .entry)) ⌝ }
+{
+    if !length_ok(text.len()) {
+        return refused(Answer::TextLength);
+    }
+    let LineRead::Whole(h) = reading::read_line(&text[0..57]) else {
+        return refused(Answer::Malformed(1));
+    };
+    if !reading::is_header(h) {
+        return refused(Answer::Header);
+    }
+    read_lines(text, h)
+}
+
+pub fn write(plan: Plan, out: &mut [u8]) -> TextWritten
+    ensures { λ r. ⌜ (r ≡ writeAnswer plan (length (now (out .entry)))) × (now (out .exit) ≡ writePlace plan (now (out .entry))) ⌝ }
+{
+    if plan::accepted_period(plan) == 0 {
+        return TextWritten {
+            answer: Answer::InvalidPlan,
+            count: 0,
+        };
+    }
+    let count = step::text_size(plan);
+    if out.len() < count {
+        return TextWritten {
+            answer: Answer::WrongLength,
+            count: 0,
+        };
+    }
+    step::write(plan, out);
+    TextWritten {
+        answer: Answer::Done,
+        count,
+    }
+}

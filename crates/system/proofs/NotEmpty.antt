@@ -1,0 +1,271 @@
+-- Demand 3 is not empty, by computation. Document 01's run of plan K meets the premise, and the plane's values are the listing's. So does a list with
+-- refused calls, a node that tells each neighbour something else, and its recovery. Without the premise, or without its R frames, the demand is false.
+use mathlib.Core.Path.{_≡_, refl, sym, ap, _∙_}
+use mathlib.Core.Bool.{Bool, true, false}
+use mathlib.Core.List.{List, [], _∷_}
+use mathlib.Core.Logic.{inl, inr}
+use Prim.Native.Nat.{ℕ, zero, suc, _*_, _^_, _<_}
+use native.Mathlib.Omega.{arith}
+use lib.Dec.{lit<}
+use lib.Ieee.{ofBits, toBits, isNan, add}
+use lib.ListN.{getD, set, take, replicate}
+use Rattle.array.specs.Index.{howMany, allBelow, fill, joined, from}
+use Rattle.array.specs.Word.{be, bytes}
+use Rattle.array.specs.Bit.{bit}
+use Rattle.array.proofs.TestLaws.{clash, and-false-right}
+use Rattle.pattern.specs.Pattern.{sumOf}
+use Rattle.answer.specs.declared.Answer.the-variants.{Done, InvalidPlan, WrongLength, MaskOrCount}
+use Rattle.plan.specs.declared.Op.the-variants.{Take, Sum}
+use Rattle.plan.specs.declared.Plan.{Plan}
+use Rattle.plan.specs.Known.{unusedTask, votedIn, readsKnown, knowTask, knowTasks, knowVoted, knowFrame, known, allKnown, periodTo, period}
+use Rattle.plan.specs.Accepted.{headerOk, opOk, taskOk, isZeroTake, isUnused, notFalling, taskEntry, initialEntry, voteEntry, actuatorEntry, entriesOk, opStorable, storable, wellFormed, accepted}
+use Rattle.node.specs.Task.{opValue, runTask, runTasks}
+use Rattle.node.specs.Majority.{holders, firstShared, majority}
+use Rattle.node.specs.Node.{poweredOn, computed, before, sentCell, messageOf, counterIn, cellIn, orOwn, votedCounter, votedCell, voted, setpoint}
+use Rattle.system.specs.System.{powerOn}
+use Rattle.system.specs.Fault.{faultMemory, faultMessage, faultSetpoint}
+use Rattle.system.specs.Plane.{mostHeld, plane}
+use Rattle.system.specs.Frame.{memoryOf, computedBy, heard, mailboxOf, memoryAfter, putOut, goodAfter, systemAfter, placeAfter, maskOk, countsOk, lengthsOk, inTurn, frameRuns, frameAnswer, framePlace, singlePlace}
+use Rattle.system.specs.Demand.{Call, callLengths, callAnswer, isFrame, next, answers, places, finally, singleNext, singlePlaces, singleFinally, callAnswers, masks, goodIn, MostGood, Premise, OnePlan, Masked}
+use Rattle.system.proofs.DemandLaws.{demand3}
+
+-- ---- plan K
+
+noVotes : List Bool
+noVotes = replicate 512 false
+
+-- plan K with these votes
+plan : List Bool → Plan
+plan votes =
+    record {
+      nodes = 3;
+      frames = 2;
+      cells = 2;
+      sensors = 1;
+      actuators = 1;
+      initial = replicate 32 0;
+      «task_count» = 2;
+      tasks =
+          set (set (replicate 64 unusedTask) 0 (record { frame = 0; target = 0; op = Take 0 }))
+          1
+          (record { frame = 1; target = 1; op = Sum 0 1 });
+      voted = votes;
+      «actuator_cell» = set (replicate 8 0) 0 1;
+    }
+
+pub planK : Plan
+planK = plan (set noVotes 33 true)
+
+-- plan K without its vote: 6, so that 7 refuses its record
+planZ : Plan
+planZ = plan noVotes
+
+planK-period : period planK ≡ 3
+unfolding planK plan noVotes period periodTo allKnown known knowFrame knowVoted knowTasks knowTask readsKnown votedIn allBelow
+planK-period = refl
+
+planK-wellFormed : wellFormed planK ≡ true
+unfolding planK plan noVotes wellFormed storable headerOk entriesOk taskEntry taskOk opOk isUnused isZeroTake notFalling initialEntry voteEntry actuatorEntry
+    opStorable votedIn allBelow
+planK-wellFormed = refl
+
+pub planK-accepted : accepted planK ≡ true
+unfolding accepted
+planK-accepted = rw (planK-wellFormed, planK-period)
+
+planZ-period : period planZ ≡ 0
+unfolding planZ plan noVotes period periodTo allKnown known knowFrame knowVoted knowTasks knowTask readsKnown votedIn allBelow
+planZ-period = refl
+
+planZ-refused : accepted planZ ≡ false
+unfolding accepted
+planZ-refused = and-false-right (wellFormed planZ) (rw planZ-period)
+
+-- ---- calls
+
+one-pattern : (x : ℕ) → x < 2 ^ 64 → (k : ℕ) → getD (x ∷ []) k 0 < 2 ^ 64
+one-pattern x l zero = l
+one-pattern x l (suc k) = lit< tt
+
+-- a call with a plan, a mask, fault bytes and one sensor
+call : Plan → ℕ → List ℕ → (x : ℕ) → x < 2 ^ 64 → Call
+call p mask faults x l =
+    record { plan = p; sensors = x ∷ []; patterns = one-pattern x l; mask = mask; faults = faults; place = 0 ∷ [] }
+
+-- all fault bytes 255
+filled : List ℕ
+filled = replicate 240 255
+
+-- the patterns of 1, 2, 3 and 6
+abbrev one : ℕ
+one = 4607182418800017408
+
+abbrev two : ℕ
+two = 4611686018427387904
+
+abbrev three : ℕ
+three = 4613937818241073152
+
+abbrev six : ℕ
+six = 4618441417868443648
+
+-- ---- document 01's run: "masks 0 4 0 0 0 0, fills all 255, sensor values 1, 1, 2, 3, 3, 3"
+
+pub runK : List Call
+runK =
+    call planK 0 filled one (lit< tt)
+    ∷ call planK 4 filled one (lit< tt)
+    ∷ call planK 0 filled two (lit< tt)
+    ∷ call planK 0 filled three (lit< tt)
+    ∷ call planK 0 filled three (lit< tt)
+    ∷ call planK 0 filled three (lit< tt)
+    ∷ []
+
+pub runK-plan : OnePlan planK runK
+unfolding OnePlan runK call
+runK-plan = (inl refl, (inl refl, (inl refl, (inl refl, (inl refl, (inl refl, tt))))))
+
+pub runK-premise : Premise planK runK []
+unfolding Premise MostGood goodIn isFrame callLengths lengthsOk maskOk runK call filled bit howMany
+    planK plan noVotes period periodTo allKnown known knowFrame knowVoted knowTasks knowTask readsKnown votedIn allBelow
+runK-premise = rw planK-accepted (λ e. lit< tt, (λ e. lit< tt, (λ e. lit< tt, (λ e. lit< tt, (λ e. lit< tt, (λ e. lit< tt, tt))))))
+
+runK-single :
+    singlePlaces (poweredOn planK) runK ≡ (0 ∷ []) ∷ (one ∷ []) ∷ (one ∷ []) ∷ (three ∷ []) ∷ (three ∷ []) ∷ (six ∷ []) ∷ []
+unfolding singlePlaces singleNext isFrame callLengths lengthsOk maskOk runK call filled poweredOn computed singlePlace setpoint
+    runTasks runTask opValue sumOf fill ofBits toBits isNan add planK plan noVotes
+runK-single = rw planK-accepted refl
+
+-- the plane values of the listing
+pub runK-listing :
+    places (powerOn planK) runK
+    ≡ (0 ∷ [])
+    ∷ (4607182418800017408 ∷ [])
+    ∷ (4607182418800017408 ∷ [])
+    ∷ (4613937818241073152 ∷ [])
+    ∷ (4613937818241073152 ∷ [])
+    ∷ (4618441417868443648 ∷ [])
+    ∷ []
+runK-listing = demand3 planK planK-accepted runK runK-plan runK-premise .setpoints ∙ runK-single
+
+-- ---- refused calls, a node that tells each neighbour something else, and its recovery
+
+-- node 0's messages to nodes 0, 1 and 2 begin with the bytes 0, 1 and 2
+pub varied : List ℕ
+varied = set (set (set filled 18 0) 36 1) 54 2
+
+-- node 0 is bad in the second frame and good in the three after it; in the last frame node 1 is bad, and nodes 0 and 2 carry the press
+pub mixed : List Call
+mixed =
+    call planK 0 varied one (lit< tt)
+    ∷ call planZ 0 varied one (lit< tt)
+    ∷ call planK 1 varied one (lit< tt)
+    ∷ call planK 8 varied one (lit< tt)
+    ∷ call planK 0 varied three (lit< tt)
+    ∷ call planK 0 [] three (lit< tt)
+    ∷ call planK 0 varied three (lit< tt)
+    ∷ call planK 0 varied two (lit< tt)
+    ∷ call planK 2 varied two (lit< tt)
+    ∷ []
+
+pub mixed-plan : OnePlan planK mixed
+unfolding OnePlan mixed call
+mixed-plan = (inl refl, (inr planZ-refused, (inl refl, (inl refl, (inl refl, (inl refl, (inl refl, (inl refl, (inl refl, tt)))))))))
+
+pub mixed-premise : Premise planK mixed []
+unfolding Premise MostGood goodIn isFrame callLengths lengthsOk maskOk mixed call varied filled bit howMany
+    planK planZ plan noVotes period periodTo allKnown known knowFrame knowVoted knowTasks knowTask readsKnown votedIn allBelow
+mixed-premise =
+    rw (planK-accepted, planZ-refused)
+    (λ e. lit< tt, (refused, (λ e. lit< tt, (refused, (λ e. lit< tt, (refused, (λ e. lit< tt, (λ e. lit< tt, (λ e. lit< tt, tt)))))))))
+  where
+    refused : {A : Type 0} → false ≡ true → A
+    refused e = absurd (clash e refl)
+
+pub mixed-messages : faultMessage planK varied 0 1 ≡ faultMessage planK varied 0 2 → ⊥
+unfolding faultMessage varied filled from planK plan
+mixed-messages e = omega (arith, ap (λ (l : List ℕ). getD l 0 0) e)
+
+mixed-calls : callAnswers mixed ≡ Done ∷ InvalidPlan ∷ Done ∷ MaskOrCount ∷ Done ∷ WrongLength ∷ Done ∷ Done ∷ Done ∷ []
+unfolding callAnswers callAnswer callLengths lengthsOk maskOk inTurn mixed call varied filled planK planZ plan noVotes
+mixed-calls = rw (planK-accepted, planZ-refused) refl
+
+pub mixed-refusals : answers (powerOn planK) mixed ≡ Done ∷ InvalidPlan ∷ Done ∷ MaskOrCount ∷ Done ∷ WrongLength ∷ Done ∷ Done ∷ Done ∷ []
+mixed-refusals = demand3 planK planK-accepted mixed mixed-plan mixed-premise .refusals ∙ mixed-calls
+
+mixed-good : goodIn 0 (take (period planK) (masks mixed [])) ≡ true
+unfolding goodIn masks isFrame callLengths lengthsOk maskOk mixed call varied filled bit
+    planK planZ plan noVotes period periodTo allKnown known knowFrame knowVoted knowTasks knowTask readsKnown votedIn allBelow
+mixed-good = rw planK-accepted refl
+
+-- node 0 has recovered
+pub mixed-memory : memoryOf (finally (powerOn planK) mixed) 0 ≡ singleFinally (poweredOn planK) mixed
+unfolding planK plan
+mixed-memory = demand3 planK planK-accepted mixed mixed-plan mixed-premise .memories 0 (lit< tt) mixed-good
+
+-- ---- outside the premise
+
+-- nodes 0 and 1 of three are bad, and put out the same
+outside : List Call
+outside = call planK 3 filled one (lit< tt) ∷ []
+
+outside-places : places (powerOn planK) outside ≡ (18446744073709551615 ∷ []) ∷ []
+unfolding places framePlace frameRuns countsOk maskOk lengthsOk outside call filled powerOn poweredOn placeAfter memoryAfter putOut computedBy heard mailboxOf
+    faultMemory faultMessage faultSetpoint plane mostHeld computed messageOf sentCell before voted votedCounter votedCell orOwn counterIn cellIn setpoint
+    majority firstShared holders runTasks runTask opValue sumOf votedIn howMany fill joined from be bytes bit ofBits toBits isNan add
+    planK plan noVotes period periodTo allKnown known knowFrame knowVoted knowTasks knowTask readsKnown allBelow
+outside-places = rw planK-accepted refl
+
+outside-single : singlePlaces (poweredOn planK) outside ≡ (0 ∷ []) ∷ []
+unfolding singlePlaces singleNext isFrame callLengths lengthsOk maskOk outside call filled poweredOn computed singlePlace setpoint
+    runTasks runTask opValue sumOf fill ofBits toBits isNan add planK plan noVotes
+outside-single = rw planK-accepted refl
+
+outside-plan : OnePlan planK outside
+unfolding OnePlan outside call
+outside-plan = (inl refl, tt)
+
+-- the value of setpoint 0 in call k
+valueIn : ℕ → List (List ℕ) → ℕ
+valueIn k l = getD (getD l k []) 0 0
+
+-- without the premise the demand is false
+pub premise-needed : ((p : Plan) → accepted p ≡ true → (cs : List Call) → OnePlan p cs → Masked p cs) → ⊥
+unfolding valueIn
+premise-needed demand =
+    omega (arith, ap (valueIn 0) (sym outside-places ∙ demand planK planK-accepted outside outside-plan .setpoints ∙ outside-single))
+
+-- in each frame two of three are good: first nodes 1 and 2, then 0 and 2. Node 0 has not recovered
+early : List Call
+early = call planK 1 filled one (lit< tt) ∷ call planK 2 filled one (lit< tt) ∷ []
+
+-- the premise without "and in the R frames before it"
+unfoldable pub MostNow : Plan → List Call → Type 0
+MostNow p [] = Unit {0}
+MostNow p (c ∷ cs) = (isFrame c ≡ true → p .nodes < 2 * howMany (λ i. goodIn i (c .mask ∷ [])) (p .nodes)) × MostNow p cs
+
+early-plan : OnePlan planK early
+unfolding OnePlan early call
+early-plan = (inl refl, (inl refl, tt))
+
+early-now : MostNow planK early
+unfolding MostNow goodIn early call bit howMany planK plan
+early-now = (λ e. lit< tt, (λ e. lit< tt, tt))
+
+early-places : places (powerOn planK) early ≡ (0 ∷ []) ∷ (9221120237041090560 ∷ []) ∷ []
+unfolding places next frameAnswer framePlace frameRuns countsOk maskOk lengthsOk early call filled powerOn poweredOn systemAfter placeAfter memoryAfter goodAfter
+    putOut computedBy heard mailboxOf faultMemory faultMessage faultSetpoint plane mostHeld computed messageOf sentCell before voted votedCounter votedCell
+    orOwn counterIn cellIn setpoint majority firstShared holders runTasks runTask opValue sumOf votedIn howMany fill joined from be bytes bit ofBits toBits
+    isNan add planK plan noVotes period periodTo allKnown known knowFrame knowVoted knowTasks knowTask readsKnown allBelow
+early-places = rw planK-accepted refl
+
+early-single : singlePlaces (poweredOn planK) early ≡ (0 ∷ []) ∷ (one ∷ []) ∷ []
+unfolding singlePlaces singleNext isFrame callLengths lengthsOk maskOk early call filled poweredOn computed singlePlace setpoint
+    runTasks runTask opValue sumOf fill ofBits toBits isNan add planK plan noVotes
+early-single = rw planK-accepted refl
+
+-- so the R frames are needed
+pub recovery-needed : ((p : Plan) → accepted p ≡ true → (cs : List Call) → OnePlan p cs → MostNow p cs → Masked p cs) → ⊥
+unfolding valueIn
+recovery-needed demand =
+    omega (arith, ap (valueIn 1) (sym early-places ∙ demand planK planK-accepted early early-plan early-now .setpoints ∙ early-single))

@@ -1,0 +1,38 @@
+-- Laws of the record at power-on.
+use mathlib.Core.Path.{_≡_, refl, sym, ap, _∙_}
+use mathlib.Core.Bool.{true, false}
+use mathlib.Core.List.{List}
+use Prim.Native.Nat.{ℕ}
+use Rattle.array.specs.Index.{fill}
+use Rattle.answer.specs.declared.Answer.the-variants.{Done, InvalidPlan}
+use Rattle.plan.specs.declared.Plan.{Plan}
+use Rattle.plan.specs.Known.{period}
+use Rattle.plan.specs.Accepted.{accepted}
+use Rattle.plan.specs.Answers.{checked}
+use Rattle.node.specs.declared.Memory.{Memory}
+use Rattle.node.specs.Node.{poweredOn}
+use Rattle.system.specs.declared.System.{System}
+use Rattle.system.specs.declared.Started.{Started}
+use Rattle.system.specs.System.{zeroSystem, powerOn, powerOnAnswer}
+
+module _ (p : Plan) where
+  pub powerOn-is :
+      (sys : System) (m : Memory) (full : ℕ) →
+      m ≡ poweredOn p →
+      full ≡ period p →
+      sys .memories ≡ fill (λ k. m) (p .nodes) (zeroSystem .memories) →
+      sys .good ≡ fill (λ k. full) (p .nodes) (zeroSystem .good) →
+      sys ≡ powerOn p
+  unfolding powerOn
+  powerOn-is sys m full e r a b =
+      let a₁ : sys .memories ≡ fill (λ k. poweredOn p) (p .nodes) (zeroSystem .memories) = a ∙ ap (λ (x : Memory). fill (λ k. x) (p .nodes) (zeroSystem .memories)) e in
+      let b₁ : sys .good ≡ fill (λ k. period p) (p .nodes) (zeroSystem .good) = b ∙ ap (λ (x : ℕ). fill (λ k. x) (p .nodes) (zeroSystem .good)) r in
+      λ i. record { memories = a₁ i; good = b₁ i }
+
+  pub powerOn-refused : (sys : System) → accepted p ≡ false → sys ≡ zeroSystem → record { answer = InvalidPlan; system = sys } ≡ powerOnAnswer p
+  unfolding powerOnAnswer checked
+  powerOn-refused sys a e = rw (a, e)
+
+  pub powerOn-done : (sys : System) → accepted p ≡ true → sys ≡ powerOn p → record { answer = Done; system = sys } ≡ powerOnAnswer p
+  unfolding powerOnAnswer checked
+  powerOn-done sys a e = rw (a, e)

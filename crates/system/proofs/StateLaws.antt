@@ -1,0 +1,240 @@
+-- What holds between two frame calls: the record's good counts are what the masks give, and each node is by its count what `Node` says.
+use mathlib.Core.Path.{_≡_, refl, sym, ap, _∙_}
+use mathlib.Core.Bool.{Bool, true, false, not, cond}
+use mathlib.Core.List.{List, [], _∷_, _++_}
+use Prim.Native.Nat.{ℕ, zero, suc, _+_, _%_, _≤_, _<_, min}
+use native.Mathlib.Omega.{arith}
+use native.Mathlib.Nat.{add-zero, zero-mod, mod-add-mod, mod-eq-of-lt, mod-lt}
+use lib.Dec.{ltb}
+use lib.ListN.{length, getD, take, length-append}
+use borrow.Author.Tests.{ltb-true, ltb-false, not-true}
+use Rattle.array.specs.Index.{fill}
+use Rattle.array.proofs.TestLaws.{split, and-left, and-right}
+use Rattle.array.proofs.PlacesLaws.{fill-length, fill-in, fill-same}
+use Rattle.plan.specs.declared.Plan.{Plan}
+use Rattle.plan.specs.Known.{known, period}
+use Rattle.plan.specs.Accepted.{accepted}
+use Rattle.plan.proofs.AcceptedLaws.{Shape, shape-of-accepted}
+use Rattle.node.specs.declared.Memory.{Memory}
+use Rattle.node.specs.Node.{zeroMemory, poweredOn, computed, before, setpoint}
+use Rattle.node.proofs.TaskLaws.{Agree, Bounded}
+use Rattle.node.proofs.NodeLaws.{poweredOn-counter, poweredOn-small, poweredOn-length, poweredOn-bounded, computed-next}
+use Rattle.node.proofs.VoteLaws.{before-next}
+use Rattle.system.specs.declared.System.{System}
+use Rattle.system.specs.System.{zeroSystem, powerOn}
+use Rattle.system.specs.Fault.{bad}
+use Rattle.system.specs.Frame.{memoryOf, goodOf, memoryAfter, goodAfter, systemAfter, placeAfter, singlePlace}
+use Rattle.system.specs.Demand.{goodIn, MostGood}
+use Rattle.system.proofs.RecoveryLaws.{SameRecovery, period-same}
+use Rattle.system.proofs.FrameLaws.{Single, single-next, Recovering, Node, node-whole, MostWork, node-after, plane-single, single-same, node-same}
+
+-- ---- the good count that masks give
+
+-- of node i, from the masks of the frames since power-on, the newest first
+unfoldable pub countOf : Plan → ℕ → List ℕ → ℕ
+countOf p i [] = period p
+countOf p i (mask ∷ past) = cond (bad mask i) 0 (min (period p) (countOf p i past + 1))
+
+module _ (p : Plan) (i : ℕ) where
+  -- good in the last k frames: a count of k at least, and the other way round
+  pub count-least : (k : ℕ) (past : List ℕ) → k ≤ period p → goodIn i (take k past) ≡ true → k ≤ countOf p i past
+  unfolding goodIn countOf
+  count-least zero past l g = omega arith
+  count-least (suc k) [] l g = l
+  count-least (suc k) (mask ∷ past) l g =
+      let good : bad mask i ≡ false = not-true (bad mask i) (and-left _ (goodIn i (take k past)) g) in
+      rw good (omega (arith, count-least k past (omega arith) (and-right (not (bad mask i)) _ g)))
+
+  pub count-good : (k : ℕ) (past : List ℕ) → k ≤ countOf p i past → goodIn i (take k past) ≡ true
+  unfolding goodIn countOf
+  count-good zero past = λ l. refl
+  count-good (suc k) [] = λ l. refl
+  count-good (suc k) (mask ∷ past) =
+      split (bad mask i)
+      (λ e. rw e (λ l. absurd (omega arith)))
+      (λ e. rw e (λ l. count-good k past (omega arith)))
+
+  -- just after a bad frame: the number of good frames since, up to R
+  pub count-since :
+      (recent : List ℕ) (mask : ℕ) (past : List ℕ) →
+      goodIn i recent ≡ true → bad mask i ≡ true →
+      countOf p i (recent ++ (mask ∷ past)) ≡ min (period p) (length recent)
+  unfolding goodIn countOf
+  count-since [] mask past g b = rw b (omega arith)
+  count-since (m ∷ recent) mask past g b =
+      let good : bad m i ≡ false = not-true (bad m i) (and-left _ (goodIn i recent) g) in
+      rw good (omega (arith, count-since recent mask past (and-right (not (bad m i)) _ g) b))
+
+-- ---- between two calls
+
+-- the system, the single controller, and the masks of the frames so far, the newest first
+pub record State (p : Plan) (sys : System) (s : Memory) (past : List ℕ) : Type 0 where
+  pub memories : p .nodes ≤ length (sys .memories)
+  pub counts : p .nodes ≤ length (sys .good)
+  pub single : Single p s
+  -- the single has run every frame since power-on
+  pub frames : s .counter ≡ length past % p .frames
+  pub count : (i : ℕ) → i < p .nodes → goodOf sys i ≡ countOf p i past
+  pub node : (i : ℕ) → i < p .nodes → Node p s (memoryOf sys i) (goodOf sys i)
+
+pub state-start : (p : Plan) → accepted p ≡ true → State p (powerOn p) (poweredOn p) []
+unfolding powerOn countOf
+state-start p accept =
+    record {
+      memories = omega (arith, shape .nodes-high, fill-length (λ i. poweredOn p) (p .nodes) (zeroSystem .memories));
+      counts = omega (arith, shape .nodes-high, fill-length (λ i. period p) (p .nodes) (zeroSystem .good));
+      single =
+          record {
+            counter = poweredOn-small p shape;
+            size = omega (arith, shape .cells-le, poweredOn-length p shape);
+            bounded = poweredOn-bounded p shape;
+          };
+      frames = poweredOn-counter p ∙ sym (zero-mod (p .frames));
+      count = full;
+      node = λ i l.
+          rw (fill-in (λ k. poweredOn p) (p .nodes) (zeroSystem .memories) i zeroMemory l (omega (arith, shape .nodes-high)), full i l)
+          (node-whole p (poweredOn p));
+    }
+  where
+    shape : Shape p
+    shape = shape-of-accepted p accept
+
+    full : (i : ℕ) → i < p .nodes → getD (fill (λ k. period p) (p .nodes) (zeroSystem .good)) i 0 ≡ period p
+    full i l = fill-in (λ k. period p) (p .nodes) (zeroSystem .good) i 0 l (omega (arith, shape .nodes-high))
+
+-- a node that was good in the last R frames, or in all if fewer, has the single's memory
+pub state-whole :
+    (p : Plan) (sys : System) (s : Memory) (past : List ℕ) → State p sys s past →
+    (i : ℕ) → i < p .nodes → goodIn i (take (period p) past) ≡ true → memoryOf sys i ≡ s
+state-whole p sys s past st i l g =
+    st .node i l .whole (omega (arith, st .node i l .most, st .count i l, count-least p i (period p) past (omega arith) g))
+
+-- ---- a node that was good in the last frames, at least one, and bad in the one before
+
+-- the counter is the single's, and so is each cell that ks knows
+pub record Trusted (ks : List Bool) (m s : Memory) : Type 0 where
+  pub counter : m .counter ≡ s .counter
+  pub cells : Agree ks (m .cells) (s .cells)
+
+whole-trusted : (ks : List Bool) (m s : Memory) → m ≡ s → Trusted ks m s
+whole-trusted ks m s e = record { counter = ap (λ (x : Memory). x .counter) e; cells = λ x k. ap (λ (y : Memory). getD (y .cells) x 0) e }
+
+-- a counter and the number of frames since give the first of these frames
+first-unique : (p : Plan) (c f g : ℕ) → f < p .frames → g < p .frames → (f + c) % p .frames ≡ (g + c) % p .frames → f ≡ g
+first-unique p zero f g fl gl e = sym (mod-eq-of-lt fl) ∙ rw (add-zero f, add-zero g) at e ∙ mod-eq-of-lt gl
+first-unique p (suc c) f g fl gl e = first-unique p c f g fl gl (sym (back f) ∙ ap (before p) e ∙ back g)
+  where
+    back : (h : ℕ) → before p ((h + suc c) % p .frames) ≡ (h + c) % p .frames
+    back h =
+        let sum : h + suc c ≡ h + c + 1 = omega arith in
+        rw (sum, ← (mod-add-mod (h + c) (p .frames) 1)) (before-next p ((h + c) % p .frames) (mod-lt (h + c) (omega arith)))
+
+module _
+    (p : Plan) (sys : System) (s : Memory) (recent : List ℕ) (mask : ℕ) (past : List ℕ)
+    (st : State p sys s (recent ++ (mask ∷ past)))
+    (i : ℕ) (l : i < p .nodes) (good : goodIn i recent ≡ true) (some : 0 < length recent) (fault : bad mask i ≡ true)
+  where
+    since : goodOf sys i ≡ min (period p) (length recent)
+    since = st .count i l ∙ count-since p i recent mask past good fault
+
+    -- its first good frame, in which the single ran the plan's frame of that number modulo F
+    abbrev first : ℕ
+    first = length (mask ∷ past) % p .frames
+
+    first-is : (f : ℕ) → f < p .frames → s .counter ≡ (f + length recent) % p .frames → f ≡ first
+    first-is f fl e =
+        let sum : length (mask ∷ past) + length recent ≡ length (recent ++ (mask ∷ past)) = simp length-append (omega arith) in
+        first-unique p (length recent) f first fl (mod-lt _ (omega arith))
+        (sym e ∙ st .frames ∙ rw (mod-add-mod, sum))
+
+    pub state-trusted : Trusted (known p first (length recent)) (memoryOf sys i) s
+    state-trusted =
+        split (ltb (length recent) (period p))
+        (λ t.
+        let few : length recent < period p = ltb-true _ _ t in
+        let c : goodOf sys i ≡ length recent = omega (arith, since) in
+        let r : Recovering p s (memoryOf sys i) (length recent) = rw c at (st .node i l .part (omega arith) (omega arith)) in
+        let f : r .first ≡ first = first-is (r .first) (r .first-small) (r .ran) in
+        record { counter = r .counter; cells = rw f at (r .agree) })
+        (λ t. whole-trusted _ _ _ (st .node i l .whole (omega (arith, since, ltb-false (length recent) (period p) t))))
+
+-- ---- a frame
+
+-- the single's counter is the number of frames, modulo F
+pub counter-after :
+    (p : Plan) (sensors : List ℕ) (s : Memory) (mask : ℕ) (past : List ℕ) →
+    s .counter < p .frames →
+    s .counter ≡ length past % p .frames →
+    computed p sensors s .counter ≡ length (mask ∷ past) % p .frames
+counter-after p sensors s mask past l e =
+    let one : length past + 1 ≡ length (mask ∷ past) = omega arith in
+    computed-next p sensors s l ∙ rw (e, mod-add-mod, one)
+
+module _
+    (p : Plan) (accept : accepted p ≡ true) (sys : System) (s : Memory) (past : List ℕ) (st : State p sys s past)
+    (sensors : List ℕ) (mask : ℕ) (faults : List ℕ) (patterns : Bounded sensors) (good : MostGood p mask past)
+  where
+    most-work : MostWork p sys s mask
+    unfolding MostGood goodIn
+    most-work =
+        record {
+          work = λ j. goodIn j (mask ∷ take (period p) past);
+          good = λ j l w. not-true (bad mask j) (and-left _ (goodIn j (take (period p) past)) w);
+          holds = λ j l w. state-whole p sys s past st j l (and-right (not (bad mask j)) _ w);
+          half = good;
+        }
+
+    memory-after : (i : ℕ) → i < p .nodes → memoryOf (systemAfter p sys sensors mask faults) i ≡ memoryAfter p sys sensors mask faults i
+    unfolding systemAfter
+    memory-after i l = fill-in (memoryAfter p sys sensors mask faults) (p .nodes) (sys .memories) i zeroMemory l (omega (arith, st .memories))
+
+    count-after : (i : ℕ) → i < p .nodes → goodOf (systemAfter p sys sensors mask faults) i ≡ goodAfter p sys sensors mask faults i
+    unfolding systemAfter
+    count-after i l = fill-in (goodAfter p sys sensors mask faults) (p .nodes) (sys .good) i 0 l (omega (arith, st .counts))
+
+    count-is : (i : ℕ) → i < p .nodes → goodAfter p sys sensors mask faults i ≡ countOf p i (mask ∷ past)
+    unfolding goodAfter countOf
+    count-is i l = rw (st .count i l)
+
+    pub state-after : State p (systemAfter p sys sensors mask faults) (computed p sensors s) (mask ∷ past)
+    unfolding systemAfter
+    state-after =
+        record {
+          memories = omega (arith, st .memories, fill-length (memoryAfter p sys sensors mask faults) (p .nodes) (sys .memories));
+          counts = omega (arith, st .counts, fill-length (goodAfter p sys sensors mask faults) (p .nodes) (sys .good));
+          single = single-next p (shape-of-accepted p accept) sensors s patterns (st .single);
+          frames = counter-after p sensors s mask past (st .single .counter) (st .frames);
+          count = λ i l. count-after i l ∙ count-is i l;
+          node = λ i l.
+              rw (memory-after i l, count-after i l)
+              (node-after p accept sys s sensors mask faults (st .single) patterns most-work i (st .node i l));
+        }
+
+    -- the press gets the single's setpoints
+    pub place-after : (place : List ℕ) → placeAfter p sys sensors mask faults place ≡ singlePlace p (computed p sensors s) place
+    unfolding placeAfter singlePlace
+    place-after place =
+        fill-same _ (setpoint p (computed p sensors s)) (p .actuators) place
+        (λ a l. plane-single p accept sys s sensors mask faults (st .single) patterns most-work a)
+
+-- ---- a plan with the same recovery
+
+count-same : (p q : Plan) → SameRecovery p q → (i : ℕ) (past : List ℕ) → countOf p i past ≡ countOf q i past
+unfolding countOf
+count-same p q same i [] = period-same p q same
+count-same p q same i (mask ∷ past) = rw (count-same p q same i past, period-same p q same)
+
+pub mostGood-same : (p q : Plan) → SameRecovery p q → (mask : ℕ) (past : List ℕ) → MostGood p mask past → MostGood q mask past
+unfolding MostGood
+mostGood-same p q same mask past h = rw (← (period-same p q same), ← (same .nodes)) h
+
+pub state-same : (p q : Plan) → SameRecovery p q → (sys : System) (s : Memory) (past : List ℕ) → State p sys s past → State q sys s past
+state-same p q same sys s past st =
+    record {
+      memories = omega (arith, st .memories, same .nodes);
+      counts = omega (arith, st .counts, same .nodes);
+      single = single-same p q same (st .single);
+      frames = st .frames ∙ rw (same .frames);
+      count = λ i l. st .count i (omega (arith, same .nodes)) ∙ count-same p q same i past;
+      node = λ i l. node-same p q same (st .node i (omega (arith, same .nodes)));
+    }

@@ -1,0 +1,136 @@
+-- A frame of the whole system under faults, the single controller, and the two counts of the run listing.
+use mathlib.Core.Bool.{Bool, true, false, not, cond, _&&_}
+use mathlib.Core.List.{List}
+use Prim.Native.Nat.{ℕ, _+_, _*_, _^_, min}
+use lib.Dec.{eqb, leb, ltb}
+use lib.ListN.{getD, length}
+use Rattle.array.specs.Index.{howMany, allBelow, fill, joined}
+use Rattle.answer.specs.declared.Answer.{Answer}
+use Rattle.answer.specs.declared.Answer.the-variants.{Done, InvalidPlan, WrongLength, MaskOrCount}
+use Rattle.plan.specs.declared.Plan.{Plan}
+use Rattle.plan.specs.Known.{period}
+use Rattle.plan.specs.Accepted.{accepted}
+use Rattle.node.specs.declared.Memory.{Memory}
+use Rattle.node.specs.declared.Outcome.{Outcome}
+use Rattle.node.specs.Node.{zeroMemory, computed, messageOf, voted, setpoint}
+use Rattle.system.specs.declared.System.{System}
+use Rattle.system.specs.declared.Framed.{Framed}
+use Rattle.system.specs.declared.Counted.{Counted}
+use Rattle.system.specs.Fault.{bad, faultsSize, faultMemory, faultMessage, faultSetpoint}
+use Rattle.system.specs.Plane.{plane}
+
+-- node i's memory in a record
+abbrev pub memoryOf : System → ℕ → Memory
+memoryOf sys i = getD (sys .memories) i zeroMemory
+
+abbrev pub goodOf : System → ℕ → ℕ
+goodOf sys i = getD (sys .good) i 0
+
+-- ---- a frame that is not refused: plan, record, sensors, mask, fault bytes
+
+module _ (p : Plan) (sys : System) (sensors : List ℕ) (mask : ℕ) (faults : List ℕ) where
+  -- node j after its tasks
+  unfoldable pub computedBy : ℕ → Memory
+  computedBy j = computed p sensors (memoryOf sys j)
+
+  -- what node i hears of node j: "Good nodes receive good nodes' messages whole"
+  unfoldable pub heard : ℕ → ℕ → List ℕ
+  heard i j = cond (bad mask j) (faultMessage p faults j i) (messageOf p (computedBy j))
+
+  -- "its mailbox is these bins one after another, node 0 first"
+  unfoldable pub mailboxOf : ℕ → List ℕ
+  mailboxOf i = joined (heard i) (p .nodes)
+
+  unfoldable pub memoryAfter : ℕ → Memory
+  memoryAfter i = cond (bad mask i) (faultMemory p faults i (memoryOf sys i)) (voted p (computedBy i) (mailboxOf i))
+
+  -- what node j puts out for actuator a
+  unfoldable pub putOut : ℕ → ℕ → ℕ
+  putOut a j = cond (bad mask j) (faultSetpoint p faults j a) (setpoint p (memoryAfter j) a)
+
+  -- "A bad node's count becomes 0; a good one's rises by 1 up to R."
+  unfoldable pub goodAfter : ℕ → ℕ
+  goodAfter i = cond (bad mask i) 0 (min (period p) (goodOf sys i + 1))
+
+  unfoldable pub systemAfter : System
+  systemAfter = record { memories = fill memoryAfter (p .nodes) (sys .memories); good = fill goodAfter (p .nodes) (sys .good) }
+
+  unfoldable pub placeAfter : List ℕ → List ℕ
+  placeAfter place = fill (λ a. plane (putOut a) (p .nodes)) (p .actuators) place
+
+-- ---- refusals of a frame call: 7, then 9, then 8
+
+-- "9: mask ≥ 2^n, or a good count above R"
+unfoldable pub maskOk : Plan → ℕ → Bool
+maskOk p mask = ltb mask (2 ^ p .nodes)
+
+unfoldable pub countsOk : Plan → System → Bool
+countsOk p sys = allBelow (λ i. leb (goodOf sys i) (period p)) (p .nodes)
+
+-- "8: sensors, setpoints, fault bytes .. not of exact length"
+unfoldable pub lengthsOk : Plan → ℕ → ℕ → ℕ → Bool
+lengthsOk p sensors faults place = eqb sensors (p .sensors) && eqb faults (faultsSize p) && eqb place (p .actuators)
+
+-- the refusal of a call by its three tests
+unfoldable pub inTurn : Bool → Bool → Bool → Answer
+inTurn plan mask lengths = cond plan (cond mask (cond lengths Done WrongLength) MaskOrCount) InvalidPlan
+
+-- ---- a frame call, refused or not: its answer with the record, and its place
+
+module _ (p : Plan) (sys : System) (sensors : List ℕ) (mask : ℕ) (faults : List ℕ) (place : List ℕ) where
+  unfoldable pub frameRuns : Bool
+  frameRuns = accepted p && (maskOk p mask && countsOk p sys) && lengthsOk p (length sensors) (length faults) (length place)
+
+  unfoldable pub frameAnswer : Framed
+  frameAnswer =
+      record {
+        answer = inTurn (accepted p) (maskOk p mask && countsOk p sys) (lengthsOk p (length sensors) (length faults) (length place));
+        system = cond frameRuns (systemAfter p sys sensors mask faults) sys;
+      }
+
+  unfoldable pub framePlace : List ℕ
+  framePlace = cond frameRuns (placeAfter p sys sensors mask faults place) place
+
+-- ---- the single controller: "it computes as above, and its setpoint i is then the pattern of the cell of actuator i .. It never votes."
+
+unfoldable pub singlePlace : Plan → Memory → List ℕ → List ℕ
+singlePlace p m place = fill (setpoint p m) (p .actuators) place
+
+-- its frame as a call of its own: 7, 8
+unfoldable pub singleRuns : Plan → ℕ → ℕ → Bool
+singleRuns p sensors place = accepted p && (eqb sensors (p .sensors) && eqb place (p .actuators))
+
+unfoldable pub singleAnswer : Plan → Memory → List ℕ → List ℕ → Outcome
+singleAnswer p m sensors place =
+    record {
+      answer = inTurn (accepted p) true (eqb (length sensors) (p .sensors) && eqb (length place) (p .actuators));
+      memory = cond (singleRuns p (length sensors) (length place)) (computed p sensors m) m;
+    }
+
+unfoldable pub singlePlaceAfter : Plan → Memory → List ℕ → List ℕ → List ℕ
+singlePlaceAfter p m sensors place =
+    cond (singleRuns p (length sensors) (length place)) (singlePlace p (computed p sensors m) place) place
+
+-- ---- the listing's two counts
+
+-- "A node is working in a frame if it is good in it and its count before was R."
+unfoldable pub isWorking : Plan → System → ℕ → ℕ → Bool
+isWorking p sys mask i = not (bad mask i) && eqb (goodOf sys i) (period p)
+
+unfoldable pub workingAnswer : Plan → System → ℕ → Counted
+workingAnswer p sys mask =
+    record {
+      answer = inTurn (accepted p) (maskOk p mask && countsOk p sys) true;
+      count = cond (accepted p && (maskOk p mask && countsOk p sys)) (howMany (isWorking p sys mask) (p .nodes)) 0;
+    }
+
+-- "nodes whose memory then equals the single controller's": counter and C cells, by bits
+unfoldable pub sameMemory : Plan → Memory → Memory → Bool
+sameMemory p m s = eqb (m .counter) (s .counter) && allBelow (λ c. eqb (getD (m .cells) c 0) (getD (s .cells) c 0)) (p .cells)
+
+unfoldable pub agreeingAnswer : Plan → System → Memory → Counted
+agreeingAnswer p sys s =
+    record {
+      answer = inTurn (accepted p) (countsOk p sys) true;
+      count = cond (accepted p && countsOk p sys) (howMany (λ i. sameMemory p (memoryOf sys i) s) (p .nodes)) 0;
+    }

@@ -1,0 +1,27 @@
+-- Document 01, 'Faults': "The system record begins at power-on: n memories and n good counts, each R, with zeros past them."
+use mathlib.Core.Bool.{cond}
+use Prim.Native.Nat.{ℕ}
+use lib.ListN.{replicate}
+use Rattle.array.specs.Index.{fill}
+use Rattle.plan.specs.declared.Plan.{Plan}
+use Rattle.plan.specs.Limits.{mostNodes}
+use Rattle.plan.specs.Known.{period}
+use Rattle.plan.specs.Accepted.{accepted}
+use Rattle.plan.specs.Answers.{checked}
+use Rattle.node.specs.Node.{zeroMemory, poweredOn}
+use Rattle.system.specs.declared.System.{System}
+use Rattle.system.specs.declared.Started.{Started}
+
+abbrev pub zeroSystem : System
+zeroSystem = record { memories = replicate mostNodes zeroMemory; good = replicate mostNodes 0 }
+
+-- of an accepted plan
+unfoldable pub powerOn : Plan → System
+powerOn p =
+    record {
+      memories = fill (λ i. poweredOn p) (p .nodes) (zeroSystem .memories);
+      good = fill (λ i. period p) (p .nodes) (zeroSystem .good);
+    }
+
+unfoldable pub powerOnAnswer : Plan → Started
+powerOnAnswer p = record { answer = checked p; system = cond (accepted p) (powerOn p) zeroSystem }

@@ -1,0 +1,85 @@
+// The whole system: its record and its constructor. The definitions of a frame under faults, and demand 3 over them, are in specs/ and proofs/.
+ghost use mathlib.Core.Path.{_≡_};
+ghost use mathlib.Core.Bool.{true};
+ghost use Rattle.plan.specs.Accepted.{accepted};
+ghost use Rattle.plan.specs.Known.{period as periodOf};
+ghost use Rattle.system.specs.System.{zeroSystem, powerOn, powerOnAnswer};
+use answer::Answer;
+use node::Memory;
+use plan::Plan;
+
+// What lies past the plan's nodes is neither read nor changed.
+pub struct System {
+    pub memories: [Memory; System::NODES],
+    pub good: [u16; System::NODES],
+}
+
+pub struct Started {
+    pub answer: Answer,
+    pub system: System,
+}
+
+// What a frame call gives beside the setpoints in its place.
+pub struct Framed {
+    pub answer: Answer,
+    pub system: System,
+}
+
+// A count of nodes.
+pub struct Counted {
+    pub answer: Answer,
+    pub count: usize,
+}
+
+impl System {
+    pub const NODES: usize = Plan::NODES;
+    pub const FRAMES: usize = Plan::FRAMES;
+    pub const CELLS: usize = Plan::CELLS;
+    pub const TASKS: usize = Plan::TASKS;
+
+    fn zero() -> System
+        ensures { λ r. ⌜ r ≡ zeroSystem ⌝ }
+    {
+        let memory = node::zero_memory();
+        System {
+            memories: [memory; System::NODES],
+            good: [0; System::NODES],
+        }
+    }
+
+    // The record of an accepted plan, whose period is given.
+    fn started(plan: Plan, period: usize) -> System
+        requires { ⌜ (accepted plan ≡ true) × (period ≡ periodOf plan) ⌝ }
+        ensures { λ r. ⌜ r ≡ powerOn plan ⌝ }
+    {
+        let nodes = plan.nodes;
+        let memory = node::step::power_on(plan);
+        let full = period as u16;
+        let mut system = System::zero();
+        let mut i: usize = 0;
+        while i < nodes {
+            system.memories[i] = memory;
+            system.good[i] = full;
+            i += 1;
+        }
+        system
+    }
+
+    pub fn power_on(plan: Plan) -> Started
+        ensures { λ r. ⌜ r ≡ powerOnAnswer plan ⌝ }
+    {
+        let period = plan::accepted_period(plan);
+        if period == 0 {
+            let system = System::zero();
+            return Started {
+                answer: Answer::InvalidPlan,
+                system,
+            };
+        }
+        let system = System::started(plan, period);
+        Started {
+            answer: Answer::Done,
+            system,
+        }
+    }
+}
