@@ -99,10 +99,16 @@ pub most-of-messages :
     MostHold p (joined f (p .nodes)) s
 most-of-messages p shape s l bs f sizes work half sends =
     record {
-      counter = omega (arith, holders-least work (counterIn p (joined f (p .nodes))) (p .nodes) (s .counter)
-          (λ j jl w. counterIn-message p f (p .nodes) sizes j jl s (sends j jl w) (omega (arith, shape .frames-le))));
-      cell = λ c cl v. omega (arith, holders-least work (cellIn p (joined f (p .nodes)) c) (p .nodes) (getD (s .cells) c 0)
-          (λ j jl w. cellIn-message p f (p .nodes) sizes j jl s (sends j jl w) c cl (bs c) ∙ sentCell-voted p s c v));
+      counter = omega (
+        arith,
+        holders-least work (counterIn p (joined f (p .nodes))) (p .nodes) (s .counter)
+            (λ j jl w. counterIn-message p f (p .nodes) sizes j jl s (sends j jl w) (omega (arith, shape .frames-le))),
+      );
+      cell = λ c cl v. omega (
+        arith,
+        holders-least work (cellIn p (joined f (p .nodes)) c) (p .nodes) (getD (s .cells) c 0)
+            (λ j jl w. cellIn-message p f (p .nodes) sizes j jl s (sends j jl w) c cl (bs c) ∙ sentCell-voted p s c v),
+      );
     }
 
 module _ (p : Plan) (box : List ℕ) (s : Memory) (most : MostHold p box s) (l : s .counter < p .frames) where

@@ -147,7 +147,13 @@ fn after(frame: usize, frames: usize) -> usize
 }
 
 // The votes of the frame, and the frame is run.
-fn closed(w: Walk, words: &mut [u16; Plan::CELLS], voted: &[bool; Plan::VOTES], frames: usize, cells: usize) -> Walk
+fn closed(
+    w: Walk,
+    words: &mut [u16; Plan::CELLS],
+    voted: &[bool; Plan::VOTES],
+    frames: usize,
+    cells: usize,
+) -> Walk
     requires { ⌜ (w .frame < frames) × (frames ≤ mostFrames) × (cells ≤ mostCells) × (w .low ≤ frames) × (w .time < 1024) ⌝ }
     ensures { λ r. ⌜ Closed (now (voted .entry)) frames cells (now (words .entry)) w (now (words .exit)) r ⌝ }
 {

@@ -144,15 +144,16 @@ module _ (p : Plan) (w : Shape p) where
   lines-room : Every (Room widths) (linesOf p)
   unfolding headerLine voteLine
   lines-room =
-      rw (lines-whole p)
-      (omega (arith, w .nodes-high, w .frames-le, w .cells-le, w .sensors-le, w .actuators-le),
-      every-append (Room widths) (cellLines (p .initial) (p .cells)) _
-      (every-joined (Room widths) (λ c. (cellKind ∷ c ∷ 0 ∷ 0 ∷ getD (p .initial) c 0 ∷ 0 ∷ []) ∷ []) (p .cells) (λ c l. omega (arith, w .cells-le, w .initial-small c)))
-      (every-append (Room widths) (taskLines (p .tasks) (p .«task_count»)) _
-      (every-joined (Room widths) (λ k. taskLine (taskAt p k) ∷ []) (p .«task_count») (λ k l. (task-room k l, tt)))
-      (every-append (Room widths) (votedLines (p .voted) (mostFrames * mostCells)) _
-      (every-joined (Room widths) (votedLine (p .voted)) (mostFrames * mostCells) (λ e l. every-if (Room widths) (getD (p .voted) e false) (voteLine (voteFrame e) (voteCell e)) (λ v. omega arith)))
-      (every-joined (Room widths) (λ i. (actuatorKind ∷ i ∷ getD (p .«actuator_cell») i 0 ∷ 0 ∷ 0 ∷ 0 ∷ []) ∷ []) (p .actuators) (λ i l. omega (arith, w .actuators-le, w .actuator i l, w .cells-le))))))
+      rw (lines-whole p) (
+        omega (arith, w .nodes-high, w .frames-le, w .cells-le, w .sensors-le, w .actuators-le),
+        every-append (Room widths) (cellLines (p .initial) (p .cells)) _
+            (every-joined (Room widths) (λ c. (cellKind ∷ c ∷ 0 ∷ 0 ∷ getD (p .initial) c 0 ∷ 0 ∷ []) ∷ []) (p .cells) (λ c l. omega (arith, w .cells-le, w .initial-small c)))
+            (every-append (Room widths) (taskLines (p .tasks) (p .«task_count»)) _
+            (every-joined (Room widths) (λ k. taskLine (taskAt p k) ∷ []) (p .«task_count») (λ k l. (task-room k l, tt)))
+            (every-append (Room widths) (votedLines (p .voted) (mostFrames * mostCells)) _
+            (every-joined (Room widths) (votedLine (p .voted)) (mostFrames * mostCells) (λ e l. every-if (Room widths) (getD (p .voted) e false) (voteLine (voteFrame e) (voteCell e)) (λ v. omega arith)))
+            (every-joined (Room widths) (λ i. (actuatorKind ∷ i ∷ getD (p .«actuator_cell») i 0 ∷ 0 ∷ 0 ∷ 0 ∷ []) ∷ []) (p .actuators) (λ i l. omega (arith, w .actuators-le, w .actuator i l, w .cells-le))))),
+      )
 
 -- ---- a text that begins with given lines
 
@@ -277,10 +278,11 @@ module _ (p : Plan) (w : Shape p) (z : Plan) (blank : (x : ℕ) → getD (z .vot
   unfolding joined inOrder inRange headerLine
   cells-passed zero l b = (headerLine p, start)
   cells-passed (suc c) l b =
-      let r = cells-passed c (omega arith) (begins-left s (linesTo p (suc c) 0 0 0) (linesTo p c 0 0 0) _ (lines-cell p c) b) in
-      (cellKind ∷ c ∷ 0 ∷ 0 ∷ getD (p .initial) c 0 ∷ 0 ∷ [],
-      passed-more s (headerLine p) first (linesTo p c 0 0 0) (cut p z c 0 0 0) (r .0) c _ (linesTo p (suc c) 0 0 0) (cut p z (suc c) 0 0 0) (lines-cell p c) (cut-cell p z c)
-      (r .1) b (and-both (lt-ltb c (p .cells) l) (eq-eqb c c refl)) refl)
+      let r = cells-passed c (omega arith) (begins-left s (linesTo p (suc c) 0 0 0) (linesTo p c 0 0 0) _ (lines-cell p c) b) in (
+        cellKind ∷ c ∷ 0 ∷ 0 ∷ getD (p .initial) c 0 ∷ 0 ∷ [],
+        passed-more s (headerLine p) first (linesTo p c 0 0 0) (cut p z c 0 0 0) (r .0) c _ (linesTo p (suc c) 0 0 0) (cut p z (suc c) 0 0 0) (lines-cell p c) (cut-cell p z c)
+            (r .1) b (and-both (lt-ltb c (p .cells) l) (eq-eqb c c refl)) refl,
+      )
 
   -- the tasks
   record OnTasks (t : ℕ) : Type 0 where

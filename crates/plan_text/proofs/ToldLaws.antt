@@ -258,7 +258,11 @@ module _ (ls : List (List ℕ)) (q : Plan) (j : ℕ) (prev : List ℕ) {c t e a 
       let ed : d ≡ 0 = search (and-left, and-right, eqb-true) in
       rw (ef, ex, ey, ed, with-cell q j 0 0 b 0)
       (record {
-        c = suc j; t = 0; e = 0; a = 0; head = refl;
+        c = suc j;
+        t = 0;
+        e = 0;
+        a = 0;
+        head = refl;
         told = told-cell ls q j b (cell-ready ls q j prev stage told l) lb l;
         stage = in-cells l (omega arith);
       })
@@ -280,7 +284,11 @@ module _ (ls : List (List ℕ)) (q : Plan) (j : ℕ) (prev : List ℕ) {c t e a 
       let next = told-task ls q (ready .t) (taskOf l) (ready .told) small ok (op-storable f x y b d k u) (ready .order) in
       rw (with-task q f x y b d k u)
       (record {
-        c = q .cells; t = suc (ready .t); e = 0; a = 0; head = refl;
+        c = q .cells;
+        t = suc (ready .t);
+        e = 0;
+        a = 0;
+        head = refl;
         told = rw same at next;
         stage = in-tasks {k = ready .t} u (task-frame ls q (ready .t) (taskOf l) (ready .told) small) (omega (arith, ready .place));
       })
@@ -299,11 +307,15 @@ module _ (ls : List (List ℕ)) (q : Plan) (j : ℕ) (prev : List ℕ) {c t e a 
       let sf : voteFrame (votePlace f x) ≡ f = omega arith in
       let sc : voteCell (votePlace f x) ≡ x = omega arith in
       let next =
-          told-vote ls q (ready .t) (ready .e) (votePlace f x) (ready .told) (ready .above) (omega (arith, header-frames q (told .header)))
-          (rw sf lf) (rw sc lx) in
+      told-vote ls q (ready .t) (ready .e) (votePlace f x) (ready .told) (ready .above) (omega (arith, header-frames q (told .header)))
+      (rw sf lf) (rw sc lx) in
       rw (ey, eb, ed, with-vote q f x 0 0 0)
       (record {
-        c = q .cells; t = ready .t; e = suc (votePlace f x); a = 0; head = refl;
+        c = q .cells;
+        t = ready .t;
+        e = suc (votePlace f x);
+        a = 0;
+        head = refl;
         told = rw (sf, sc) at next;
         stage = in-votes refl refl small (omega arith);
       })
@@ -322,7 +334,11 @@ module _ (ls : List (List ℕ)) (q : Plan) (j : ℕ) (prev : List ℕ) {c t e a 
       let few : f < mostActuators = omega (arith, header-actuators q (told .header)) in
       rw (ey, eb, ed, with-actuator q f x 0 0 0)
       (record {
-        c = q .cells; t = ready .t; e = ready .e; a = suc f; head = refl;
+        c = q .cells;
+        t = ready .t;
+        e = ready .e;
+        a = suc f;
+        head = refl;
         told = told-actuator ls q (ready .t) (ready .e) f x (ready .told) few lx;
         stage = in-actuators refl refl (omega arith);
       })
@@ -360,7 +376,11 @@ module _ (z : Plan) (f x y b d : ℕ) (cells : Cells (z .initial) 0) (count : z 
       let e : k ≡ 0 = eqb-true k headerKind (and-left (eqb k headerKind) (headerOk f x y b d 0) o) in
       rw (e, with-header z f x y b d)
       (record {
-        c = 0; t = 0; e = 0; a = 0; head = refl;
+        c = 0;
+        t = 0;
+        e = 0;
+        a = 0;
+        head = refl;
         told = record { lines = refl; header = ok; cells = cells; count = count; tasks = tasks; votes = votes; actuators = actuators };
         stage = in-cells (omega arith) (omega arith);
       })

@@ -76,7 +76,14 @@ pub fn is_header(l: Line) -> bool
     ensures { λ r. ⌜ r ≡ isHeader (numbersIn l) ⌝ }
 {
     (l.kind == 0)
-        & plan::entries::header_ok(l.second, l.third, l.fourth, l.fifth as usize, l.sixth as usize, 0)
+        & plan::entries::header_ok(
+            l.second,
+            l.third,
+            l.fourth,
+            l.fifth as usize,
+            l.sixth as usize,
+            0,
+        )
 }
 
 fn after_cells(h: Line, j: usize) -> bool

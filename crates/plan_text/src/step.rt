@@ -65,8 +65,22 @@ fn op_line(frame: usize, target: usize, op: Op) -> Line
         Op::Sum(a, b) => numbers(11, frame, target, a, b as u64, 0),
         Op::Diff(a, b) => numbers(12, frame, target, a, b as u64, 0),
         Op::Scale(a, factor) => numbers(13, frame, target, a, pattern::pattern(factor), 0),
-        Op::Limit(a, low, high) => numbers(14, frame, target, a, pattern::pattern(low), pattern::pattern(high)),
-        Op::Wind(a, law) => numbers(15, frame, target, a, pattern::pattern(law.rate), pattern::pattern(law.cap)),
+        Op::Limit(a, low, high) => numbers(
+            14,
+            frame,
+            target,
+            a,
+            pattern::pattern(low),
+            pattern::pattern(high),
+        ),
+        Op::Wind(a, law) => numbers(
+            15,
+            frame,
+            target,
+            a,
+            pattern::pattern(law.rate),
+            pattern::pattern(law.cap),
+        ),
     }
 }
 
@@ -112,7 +126,11 @@ fn write_votes(voted: &[bool; Plan::VOTES], out: &mut [u8], from: usize) -> usiz
     let mut e: usize = 0;
     while e < Plan::VOTES {
         if voted[e] {
-            write_line(out, i, numbers(20, e / Plan::CELLS, e % Plan::CELLS, 0, 0, 0));
+            write_line(
+                out,
+                i,
+                numbers(20, e / Plan::CELLS, e % Plan::CELLS, 0, 0, 0),
+            );
             i += 1;
         }
         e += 1;
@@ -149,7 +167,18 @@ pub fn write(plan: Plan, out: &mut [u8])
     let cells = plan.cells;
     let tasks = plan.task_count;
     let actuators = plan.actuators;
-    write_line(out, 0, numbers(0, plan.nodes, plan.frames, cells, plan.sensors as u64, actuators as u64));
+    write_line(
+        out,
+        0,
+        numbers(
+            0,
+            plan.nodes,
+            plan.frames,
+            cells,
+            plan.sensors as u64,
+            actuators as u64,
+        ),
+    );
     write_cells(&plan.initial, cells, out, 1);
     write_tasks(plan, tasks, out, 1 + cells);
     let next = write_votes(&plan.voted, out, 1 + cells + tasks);

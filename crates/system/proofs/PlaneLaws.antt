@@ -83,7 +83,7 @@ module _ (put : ℕ → ℕ) (n : ℕ) where
   pub handed-unique : (v w : ℕ) → Handed put n v → Handed put n w → v ≡ w
   handed-unique v w a b =
       let even : holders put n v ≡ holders put n w =
-          omega (arith, rw (a .holds) at (b .most (a .holder) (a .below)), rw (b .holds) at (a .most (b .holder) (b .below))) in
+      omega (arith, rw (a .holds) at (b .most (a .holder) (a .below)), rw (b .holds) at (a .most (b .holder) (b .below))) in
       let low : a .holder ≤ b .holder = a .lowest (b .holder) (b .below) (rw (b .holds) (sym even)) in
       let high : b .holder ≤ a .holder = b .lowest (a .holder) (a .below) (rw (a .holds) even) in
       let same : a .holder ≡ b .holder = omega arith in

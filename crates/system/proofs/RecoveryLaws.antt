@@ -46,7 +46,13 @@ op-trans same-wind same-wind = same-wind
 pub recovery-refl : (p : Plan) → SameRecovery p p
 recovery-refl p =
     record {
-      nodes = refl; frames = refl; cells = refl; sensors = refl; actuators = refl; tasks = refl; votes = refl;
+      nodes = refl;
+      frames = refl;
+      cells = refl;
+      sensors = refl;
+      actuators = refl;
+      tasks = refl;
+      votes = refl;
       task = λ k l. record { frame = refl; target = refl; op = same-op };
     }
 

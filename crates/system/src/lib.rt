@@ -33,8 +33,11 @@ pub struct Counted {
 
 impl System {
     pub const NODES: usize = Plan::NODES;
+
     pub const FRAMES: usize = Plan::FRAMES;
+
     pub const CELLS: usize = Plan::CELLS;
+
     pub const TASKS: usize = Plan::TASKS;
 
     fn zero() -> System

@@ -1,30 +1,32 @@
+-- `plan_text::read` meets its contract: the length, then the first line, then the lines after it.
 use native.Mathlib.Omega.{arith}
 use lib.ListN.{length}
-use Rattle.plan_text.proofs.LineLaws.{some-line}
-use Rattle.plan_text.proofs.RefusedLaws.{line-malformed, not-header, text-wrong-length, text-refused}
-use Rattle.plan_text.proofs.ReadLaws.{fails, holds, whole-line, no-line, read-first, answer-refused}
 use borrow.Author.Needs.{needs}
+use Rattle.plan_text.proofs.LineLaws.{some-line}
+use Rattle.plan_text.proofs.ReadLaws.{fails, holds, whole-line, no-line, answer-length, answer-first, answer-header}
 use Rattle.plan_text.proofs.read.Statement.{statement}
 use Rattle.plan_text.proofs.read.Tie as tie
 
 returns : tie.Need-returns
-returns c = answer-refused (c .before .before .before .before .args .text .now) _ _ (text-wrong-length (c .before .before .before .before .args .text .now) (fails (c .before .before .length-ok .ensures) (c .before .if1 .taken))) (c .refused .ensures)
+returns c = answer-length _ (fails (c .before .before .length-ok .ensures) (c .before .if1 .taken)) (c .refused .ensures)
 
 part-read-line-end : tie.Need-part-read-line-end
 part-read-line-end c = omega (arith, some-line (length (c .before .before .before .args .text .now)) (holds (c .before .length-ok .ensures) (c .if1 .left)))
 
 returns-2 : tie.Need-returns-2
 returns-2 c =
-    let ok = holds (c .before .before .before .before .before .before .length-ok .ensures) (c .before .before .before .before .before .if1 .left) in
-    answer-refused (c .before .before .before .before .before .before .before .before .args .text .now) _ _ (text-refused (c .before .before .before .before .before .before .before .before .args .text .now) _ ok (read-first (c .before .before .before .before .before .before .before .before .args .text .now) _ ok (line-malformed (c .before .before .before .before .before .before .before .before .args .text .now) 0 (no-line (c .before .before .before .before .before .before .before .before .args .text .now) 0 (c .before .before .before .read-line .ensures) (c .before .enum-told .given .1))))) (c .refused2 .ensures)
+    let start = c .before .before .before .before .before .before .before .before in
+    answer-first _ (holds (c .before .before .before .before .before .before .length-ok .ensures) (c .before .before .before .before .before .if1 .left)) (no-line (start .args .text .now) 0 (c .before .before .before .read-line .ensures) (c .before .enum-told .given .1)) (c .refused2 .ensures)
 
 returns-3 : tie.Need-returns-3
 returns-3 c =
-    let ok = holds (c .before .before .before .before .before .before .before .before .before .length-ok .ensures) (c .before .before .before .before .before .before .before .before .if1 .left) in
-    answer-refused (c .before .before .before .before .before .before .before .before .before .before .before .args .text .now) _ _ (text-refused (c .before .before .before .before .before .before .before .before .before .before .before .args .text .now) _ ok (read-first (c .before .before .before .before .before .before .before .before .before .before .before .args .text .now) _ ok (not-header (c .before .before .before .before .before .before .before .before .before .before .before .args .text .now) _ (whole-line (c .before .before .before .before .before .before .before .before .before .before .before .args .text .now) 0 (c .before .before .before .before .before .before .read-line .ensures) (c .before .before .before .before .h .given .1)) (fails (c .before .before .is-header .ensures) (c .before .if2 .taken))))) (c .refused3 .ensures)
+    let start = c .before .before .before .before .before .before .before .before .before .before .before in
+    answer-header _ (holds (c .before .before .before .before .before .before .before .before .before .length-ok .ensures) (c .before .before .before .before .before .before .before .before .if1 .left)) (whole-line (start .args .text .now) 0 (c .before .before .before .before .before .before .read-line .ensures) (c .before .before .before .before .h .given .1)) (fails (c .before .before .is-header .ensures) (c .before .if2 .taken)) (c .refused3 .ensures)
 
 read-lines-requires : tie.Need-read-lines-requires
-read-lines-requires c κs = (holds (c .before .before .before .before .before .before .before .before .length-ok .ensures) (c .before .before .before .before .before .before .before .if1 .left), whole-line (c .before .before .before .before .before .before .before .before .before .before .args .text .now) 0 (c .before .before .before .before .before .read-line .ensures) (c .before .before .before .h .given .1), holds (c .before .is-header .ensures) (c .if2 .left))
+read-lines-requires c κs =
+    let start = c .before .before .before .before .before .before .before .before .before .before in
+    ((holds (c .before .before .before .before .before .before .before .before .length-ok .ensures) (c .before .before .before .before .before .before .before .if1 .left)), whole-line (start .args .text .now) 0 (c .before .before .before .before .before .read-line .ensures) (c .before .before .before .h .given .1), holds (c .before .is-header .ensures) (c .if2 .left))
 
 pub read-spec : {M : Type 1} → statement M
 read-spec =

@@ -1,22 +1,20 @@
+-- `plan_text::read_lines` meets its contract: the first i lines pass and mean the record so far; the first line that does not pass refuses the text.
 use mathlib.Core.Path.{_≡_, sym, ap, _∙_}
 use mathlib.Core.Bool.{true}
 use mathlib.Core.Logic.{⊎-elim}
 use mathlib.Core.Option.{some}
 use Prim.Native.Nat.{_+_, _-_}
 use native.Mathlib.Omega.{arith}
+use lib.ListN.{set}
 use lib.Seq.{set-out}
-use lib.ListN.{length, set}
 use borrow.Author.Needs.{needs}
-use Rattle.plan.specs.declared.Task.{Task}
-use Rattle.plan.specs.Known.{period}
 use Rattle.plan_text.specs.Line.{numbersAt}
 use Rattle.plan_text.specs.Meant.{withLine}
 use Rattle.plan_text.specs.Refused.{inOrder, inRange}
 use Rattle.plan_text.specs.Reader.{numbersIn}
-use Rattle.plan_text.proofs.LineLaws.{few-lines}
-use Rattle.plan_text.proofs.RefusedLaws.{cell-index, vote-index, actuator-index, text-refused, text-unrecoverable, text-none}
+use Rattle.plan_text.proofs.RefusedLaws.{cell-index, vote-index, actuator-index}
 use Rattle.plan_text.proofs.StoreLaws.{later-kind, header-stored, task-stored, other-stored, counted}
-use Rattle.plan_text.proofs.ReadLaws.{ReadTo, fails, holds, whole-line, no-line, read-tasks, read-count, read-malformed, read-order, read-range, read-more, read-start, read-missing, read-whole, read-plan, read-wellFormed, answer-refused, answer-done}
+use Rattle.plan_text.proofs.ReadLaws.{holds, whole-line, no-line, ReadTo, read-start, read-tasks, read-count, read-more, read-wellFormed, answer-malformed, answer-order, answer-range, answer-missing, answer-unrecoverable, answer-done}
 use Rattle.plan_text.proofs.read_lines.Statement.{statement}
 use Rattle.plan_text.proofs.read_lines.Tie as tie
 
@@ -28,7 +26,9 @@ abbrev μ-loop : tie.MeasureT-loop
 
 -- the line that was read, and that it passed
 numbers : (c : tie.After-l Inv-loop μ-loop) → numbersAt (c .before .before .before .before .before .before .before .before .args .text .now) (c .before .before .before .before .before .loop .i) ≡ some (numbersIn (c .l .given .0 .0))
-numbers c = whole-line (c .before .before .before .before .before .before .before .before .args .text .now) (c .before .before .before .before .before .loop .i) (c .before .before .read-line .ensures) (c .l .given .1)
+numbers c =
+    let start = c .before .before .before .before .before .before .before .before in
+    whole-line (start .args .text .now) (c .before .before .before .before .before .loop .i) (c .before .before .read-line .ensures) (c .l .given .1)
 
 order :
     (c : tie.Else1 Inv-loop μ-loop) →
@@ -38,75 +38,86 @@ order c = holds (c .before .in-order .ensures) (c .if1 .left)
 range : (c : tie.Else2 Inv-loop μ-loop) → inRange (numbersIn (c .before .before .before .before .before .before .before .before .before .before .before .before .before .args .h)) (numbersIn (c .before .before .before .before .before .l .given .0 .0)) ≡ true
 range c = holds (c .before .in-range .ensures) (c .if2 .left)
 
--- the record with its entry
+-- the record with its entry; past the 64th there is no place for a task
 stored : (c : tie.Joined3 Inv-loop μ-loop) → c .if3 .plan ≡ withLine (numbersIn (c .before .before .before .before .before .before .before .before .before .before .before .before .before .l .given .0 .0)) (c .before .before .before .before .before .before .before .before .before .before .before .before .before .before .before .before .before .before .loop .plan)
 stored c =
-    let p = c .before .before .before .before .before .before .before .before .before .before .before .before .before .before .before .before .before .before .loop .plan in
-    let l = numbersIn (c .before .before .before .before .before .before .before .before .before .before .before .before .before .l .given .0 .0) in
-    let k = later-kind (numbersIn (c .before .before .before .before .before .before .before .before .before .before .before .before .before .before .before .before .before .before .before .before .before .args .h)) (c .before .before .before .before .before .before .before .before .before .before .before .before .before .before .before .before .before .before .loop .i - 1) (numbersIn (c .before .before .before .before .before .before .before .before .before .before .before .before .before .before .before .before .before .before .loop .prev)) l (order (c .before .before .before .before .before .before .before .before .before .before)) in
+    let loop = c .before .before .before .before .before .before .before .before .before .before .before .before .before .before .before .before .before .before .loop in
+    let p = loop .plan in
+    let n = p .«task_count» in
+    let k = later-kind _ _ _ _ (order (c .before .before .before .before .before .before .before .before .before .before)) in
     let e₁ = c .before .before .before .before .before .before .store-initial .ensures in
     let e₂ = c .before .before .before .before .store-vote .ensures in
     let e₃ = c .before .before .store-actuator .ensures in
     ⊎-elim
     (λ w.
     let kind = sym (c .before .is-task .ensures) ∙ w .0 .taken in
-    w .3 ∙
-    ⊎-elim
-    (λ v. ap (counted (p .«task_count» + 1)) (v .1) ∙ task-stored p l k e₁ e₂ e₃ kind (ap (λ (t : Task). set (p .tasks) (p .«task_count») t) (w .1 .ensures)))
-    (λ v. ap (counted (p .«task_count» + 1)) (v .1) ∙ task-stored p l k e₁ e₂ e₃ kind (sym (set-out (p .tasks) (p .«task_count») _ (omega (arith, read-tasks (c .before .before .before .before .before .before .before .before .before .before .before .before .before .before .before .before .before .before .loop .inv))))))
+    w .3
+    ∙ ⊎-elim
+    (λ v. ap (counted (n + 1)) (v .1) ∙ task-stored p _ k e₁ e₂ e₃ kind (ap (set (p .tasks) n) (w .1 .ensures)))
+    (λ v. ap (counted (n + 1)) (v .1) ∙ task-stored p _ k e₁ e₂ e₃ kind (sym (set-out (p .tasks) n _ (omega (arith, read-tasks (loop .inv))))))
     (w .2 .came))
-    (λ w. w .1 ∙ other-stored p l k e₁ e₂ e₃ (sym (c .before .is-task .ensures) ∙ w .0 .left))
+    (λ w. w .1 ∙ other-stored p _ k e₁ e₂ e₃ (sym (c .before .is-task .ensures) ∙ w .0 .left))
     (c .if3 .came)
 
 loop-holds : tie.Need-loop-holds Inv-loop μ-loop
 loop-holds c =
-    let h = c .before .before .args .h in
-    read-start (c .before .before .args .text .now) (numbersIn h) _ (c .before .before .pre .0) (c .before .before .pre .1) (c .before .before .pre .2)
-    (header-stored (h .kind) (h .second) (h .third) (h .fourth) (h .fifth) (h .sixth) (c .zero-plan .result) (c .before .before .pre .2) (c .zero-plan .ensures))
+    let start = c .before .before in
+    read-start (start .pre .0) (start .pre .1) (start .pre .2) (header-stored _ _ _ _ _ _ _ (start .pre .2) (c .zero-plan .ensures))
 
 returns : tie.Need-returns Inv-loop μ-loop
-returns c = answer-refused (c .before .before .before .before .before .before .before .before .before .args .text .now) _ _ (text-refused (c .before .before .before .before .before .before .before .before .before .args .text .now) _ (c .before .before .before .before .before .before .before .before .before .pre .0) (read-malformed (c .before .before .before .before .before .before .loop .inv) (c .before .before .before .before .before .loop-test .taken) (no-line (c .before .before .before .before .before .before .before .before .before .args .text .now) (c .before .before .before .before .before .before .loop .i) (c .before .before .before .read-line .ensures) (c .before .enum-told .given .1)))) (c .refused .ensures)
+returns c =
+    let start = c .before .before .before .before .before .before .before .before .before in
+    let loop = c .before .before .before .before .before .before .loop in
+    answer-malformed (loop .inv) (c .before .before .before .before .before .loop-test .taken) (no-line (start .args .text .now) (loop .i) (c .before .before .before .read-line .ensures) (c .before .enum-told .given .1)) (c .refused .ensures)
 
 returns-2 : tie.Need-returns-2 Inv-loop μ-loop
-returns-2 c = answer-refused (c .before .before .before .before .before .before .before .before .before .before .before .before .args .text .now) _ _ (text-refused (c .before .before .before .before .before .before .before .before .before .before .before .before .args .text .now) _ (c .before .before .before .before .before .before .before .before .before .before .before .before .pre .0) (read-order (c .before .before .before .before .before .before .before .before .before .loop .inv) (c .before .before .before .before .before .before .before .before .loop-test .taken) _ (numbers (c .before .before .before .before)) (fails (c .before .before .in-order .ensures) (c .before .if1 .taken)))) (c .refused2 .ensures)
+returns-2 c =
+    let loop = c .before .before .before .before .before .before .before .before .before .loop in
+    answer-order (loop .inv) (c .before .before .before .before .before .before .before .before .loop-test .taken) (numbers (c .before .before .before .before)) (c .before .before .in-order .ensures) (c .before .if1 .taken) (c .refused2 .ensures)
 
 returns-3 : tie.Need-returns-3 Inv-loop μ-loop
-returns-3 c = answer-refused (c .before .before .before .before .before .before .before .before .before .before .before .before .before .before .args .text .now) _ _ (text-refused (c .before .before .before .before .before .before .before .before .before .before .before .before .before .before .args .text .now) _ (c .before .before .before .before .before .before .before .before .before .before .before .before .before .before .pre .0) (read-range (c .before .before .before .before .before .before .before .before .before .before .before .loop .inv) (c .before .before .before .before .before .before .before .before .before .before .loop-test .taken) _ (numbers (c .before .before .before .before .before .before)) (order (c .before .before .before)) (fails (c .before .before .in-range .ensures) (c .before .if2 .taken)))) (c .refused3 .ensures)
+returns-3 c =
+    let loop = c .before .before .before .before .before .before .before .before .before .before .before .loop in
+    answer-range (loop .inv) (c .before .before .before .before .before .before .before .before .before .before .loop-test .taken) (numbers (c .before .before .before .before .before .before)) (order (c .before .before .before)) (c .before .before .in-range .ensures) (c .before .if2 .taken) (c .refused3 .ensures)
 
 store-initial-requires : tie.Need-store-initial-requires Inv-loop μ-loop
-store-initial-requires c κs = cell-index (numbersIn (c .before .before .before .before .before .before .before .before .before .before .before .before .before .before .args .h)) (c .before .before .before .before .before .before .before .before .before .before .before .before .before .before .pre .2) (numbersIn (c .before .before .before .before .before .before .l .given .0 .0)) (c .before .before .before .before .before .before .before .before .before .before .before .loop .i - 1) (numbersIn (c .before .before .before .before .before .before .before .before .before .before .before .loop .prev)) (order (c .before .before .before))
+store-initial-requires c κs =
+    let start = c .before .before .before .before .before .before .before .before .before .before .before .before .before .before in
+    cell-index _ (start .pre .2) _ _ _ (order (c .before .before .before))
 
 store-vote-requires : tie.Need-store-vote-requires Inv-loop μ-loop
-store-vote-requires c κs = vote-index (numbersIn (c .before .before .before .before .before .before .before .before .before .before .before .before .before .before .before .before .args .h)) (c .before .before .before .before .before .before .before .before .before .before .before .before .before .before .before .before .pre .2) (numbersIn (c .before .before .before .before .before .before .before .before .l .given .0 .0)) (range (c .before .before .before))
+store-vote-requires c κs =
+    let start = c .before .before .before .before .before .before .before .before .before .before .before .before .before .before .before .before in
+    vote-index _ (start .pre .2) _ (range (c .before .before .before))
 
 store-actuator-requires : tie.Need-store-actuator-requires Inv-loop μ-loop
-store-actuator-requires c κs = actuator-index (numbersIn (c .before .before .before .before .before .before .before .before .before .before .before .before .before .before .before .before .before .before .args .h)) (c .before .before .before .before .before .before .before .before .before .before .before .before .before .before .before .before .before .before .pre .2) (numbersIn (c .before .before .before .before .before .before .before .before .before .before .l .given .0 .0)) (c .before .before .before .before .before .before .before .before .before .before .before .before .before .before .before .loop .i - 1) (numbersIn (c .before .before .before .before .before .before .before .before .before .before .before .before .before .before .before .loop .prev)) (order (c .before .before .before .before .before .before .before))
+store-actuator-requires c κs =
+    let start = c .before .before .before .before .before .before .before .before .before .before .before .before .before .before .before .before .before .before in
+    actuator-index _ (start .pre .2) _ _ _ (order (c .before .before .before .before .before .before .before))
 
 add-plan : tie.Need-add-plan Inv-loop μ-loop
-add-plan c = omega (arith, read-count (c .before .before .before .before .before .before .before .before .before .before .before .before .before .before .before .before .before .before .before .before .loop .inv), c .before .before .before .before .before .before .before .before .before .before .before .before .before .before .before .before .before .before .before .before .loop .inv .in-text, few-lines (length (c .before .before .before .before .before .before .before .before .before .before .before .before .before .before .before .before .before .before .before .before .before .before .before .args .text .now)) (c .before .before .before .before .before .before .before .before .before .before .before .before .before .before .before .before .before .before .before .before .before .before .before .pre .0))
+add-plan c =
+    let loop = c .before .before .before .before .before .before .before .before .before .before .before .before .before .before .before .before .before .before .before .before .loop in
+    omega (arith, read-count (loop .inv))
 
 loop-again : tie.Need-loop-again Inv-loop μ-loop
-loop-again c = read-more (c .before .before .before .before .before .before .before .before .before .before .before .before .before .before .before .before .before .before .loop .inv) (c .before .before .before .before .before .before .before .before .before .before .before .before .before .before .before .before .before .loop-test .taken) _ (numbers (c .before .before .before .before .before .before .before .before .before .before .before .before .before)) (order (c .before .before .before .before .before .before .before .before .before .before)) (range (c .before .before .before .before .before .before .before .before)) (c .if3 .plan) (stored c)
+loop-again c =
+    let loop = c .before .before .before .before .before .before .before .before .before .before .before .before .before .before .before .before .before .before .loop in
+    read-more (loop .inv) (c .before .before .before .before .before .before .before .before .before .before .before .before .before .before .before .before .before .loop-test .taken) (numbers (c .before .before .before .before .before .before .before .before .before .before .before .before .before)) (order (c .before .before .before .before .before .before .before .before .before .before)) (range (c .before .before .before .before .before .before .before .before)) (stored c)
 
 returns-4 : tie.Need-returns-4 Inv-loop μ-loop
-returns-4 c = answer-refused (c .before .before .before .before .before .before .before .args .text .now) _ _ (text-refused (c .before .before .before .before .before .before .before .args .text .now) _ (c .before .before .before .before .before .before .before .pre .0) (read-missing (c .before .before .before .before .loop .inv) (c .before .before .before .loop-test .left) (fails (c .before .before .is-last .ensures) (c .before .if5 .taken)))) (c .refused4 .ensures)
+returns-4 c = answer-missing (c .before .before .before .before .loop .inv) (c .before .before .before .loop-test .left) (c .before .before .is-last .ensures) (c .before .if5 .taken) (c .refused4 .ensures)
 
 period-requires : tie.Need-period-requires Inv-loop μ-loop
-period-requires c κs = read-wellFormed (c .before .before .before .loop .inv) (c .before .before .loop-test .left) (c .before .before .before .before .before .before .pre .0) (holds (c .before .is-last .ensures) (c .if5 .left))
+period-requires c κs = read-wellFormed (c .before .before .before .loop .inv) (c .before .before .loop-test .left) (c .before .is-last .ensures) (c .if5 .left)
 
 returns-5 : tie.Need-returns-5 Inv-loop μ-loop
 returns-5 c =
-    let all = c .before .before .before .before .before .loop-test .left in
-    let none-refused = read-whole (c .before .before .before .before .before .before .loop .inv) all (holds (c .before .before .before .before .is-last .ensures) (c .before .before .before .if5 .left)) in
-    let zero = sym (ap period (read-plan (c .before .before .before .before .before .before .loop .inv) all)) ∙ sym (c .before .before .period .ensures) ∙ c .before .if6 .taken in
-    answer-refused (c .before .before .before .before .before .before .before .before .before .args .text .now) _ _ (text-unrecoverable (c .before .before .before .before .before .before .before .before .before .args .text .now) (c .before .before .before .before .before .before .before .before .before .pre .0) none-refused zero) (c .refused5 .ensures)
+    let loop = c .before .before .before .before .before .before .loop in
+    answer-unrecoverable (loop .inv) (c .before .before .before .before .before .loop-test .left) (c .before .before .before .before .is-last .ensures) (c .before .before .before .if5 .left) (c .before .before .period .ensures) (c .before .if6 .taken) (c .refused5 .ensures)
 
 returns-6 : tie.Need-returns-6 Inv-loop μ-loop
-returns-6 c =
-    let all = c .before .before .before .before .loop-test .left in
-    let none-refused = read-whole (c .before .before .before .before .before .loop .inv) all (holds (c .before .before .before .is-last .ensures) (c .before .before .if5 .left)) in
-    let same = c .before .period .ensures ∙ ap period (read-plan (c .before .before .before .before .before .loop .inv) all) in
-    answer-done (c .before .before .before .before .before .before .before .before .args .text .now) _ (text-none (c .before .before .before .before .before .before .before .before .args .text .now) (c .before .before .before .before .before .before .before .before .pre .0) none-refused (λ z. c .if6 .left (same ∙ z))) (read-plan (c .before .before .before .before .before .loop .inv) all)
+returns-6 c = answer-done (c .before .before .before .before .before .loop .inv) (c .before .before .before .before .loop-test .left) (c .before .before .before .is-last .ensures) (c .before .before .if5 .left) (c .before .period .ensures) (c .if6 .left)
 
 pub read-lines-spec : {M : Type 1} → statement M
 read-lines-spec =

@@ -1,3 +1,4 @@
+-- `plan_text::store_actuator` meets its contract: an actuator's cell is stored, and of another line nothing.
 use native.Mathlib.Omega.{arith}
 use borrow.Author.Tests.{eq-eqb, ne-eqb}
 use Rattle.plan_text.specs.Meant.{actuatorsWith}

@@ -1,3 +1,4 @@
+-- `plan_text::store_vote` meets its contract: a vote is stored at its place in the table, and of another line nothing.
 use native.Mathlib.Omega.{arith}
 use borrow.Author.Tests.{eq-eqb, ne-eqb}
 use Rattle.plan_text.specs.Meant.{votedWith}

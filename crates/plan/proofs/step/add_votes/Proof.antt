@@ -20,13 +20,13 @@ loop-holds : tie.Need-loop-holds Inv-loop μ-loop
 loop-holds c = (search needs, sym (fill-none _ _))
 
 loop-again : tie.Need-loop-again Inv-loop μ-loop
-loop-again c = 
+loop-again c =
     let a = c .before .before .before .before .before .args in
     (search needs, votes-more (a .voted .now) (a .frame) (a .begun) (a .words .now) (c .before .before .before .before .loop .words) (c .before .before .before .before .loop .c) (c .if-voted .result) (c .before .before .before .before .loop .inv .1) (c .if-voted .ensures))
 
 returns : tie.Need-returns Inv-loop μ-loop
 unfolding withVotes
-returns c = 
+returns c =
     let l = c .before in
     let e : l .loop .c ≡ l .before .args .cells = omega arith in
     subst (λ (n : ℕ). l .loop .words ≡ fill (votedWord (l .before .args .voted .now) (l .before .args .frame) (l .before .args .begun) (l .before .args .words .now)) n (l .before .args .words .now)) e (l .loop .inv .1)

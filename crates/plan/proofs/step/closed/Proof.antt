@@ -8,7 +8,7 @@ use Rattle.plan.proofs.step.closed.Tie as tie
 
 returns : tie.Need-returns
 unfolding whole
-returns c = 
+returns c =
     let a = c .before .before .before .before .before .before .before .before .before .before .args in
     let u = c .before .before .first-unset .ensures in
     let k = c .before .before .before .known-by-all .ensures in

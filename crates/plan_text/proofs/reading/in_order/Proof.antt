@@ -1,7 +1,8 @@
-use borrow.Author.Tests.{eq-eqb, ne-eqb, lt-leb, le-leb}
+-- `plan_text::reading::in_order` meets its contract: one return for each kind of line.
 use mathlib.Core.Path.{sym, _∙_}
-use Rattle.plan_text.specs.Refused.{inOrder}
+use borrow.Author.Tests.{eq-eqb, ne-eqb, lt-leb, le-leb}
 use borrow.Author.Needs.{needs}
+use Rattle.plan_text.specs.Refused.{inOrder}
 use Rattle.plan_text.proofs.reading.in_order.Statement.{statement}
 use Rattle.plan_text.proofs.reading.in_order.Tie as tie
 

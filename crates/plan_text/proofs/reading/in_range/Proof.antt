@@ -1,7 +1,8 @@
-use borrow.Author.Tests.{eq-eqb, ne-eqb}
+-- `plan_text::reading::in_range` meets its contract: one return for each kind of line.
 use mathlib.Core.Path.{sym, _∙_}
-use Rattle.plan_text.specs.Refused.{inRange}
+use borrow.Author.Tests.{eq-eqb, ne-eqb}
 use borrow.Author.Needs.{needs}
+use Rattle.plan_text.specs.Refused.{inRange}
 use Rattle.plan_text.proofs.reading.in_range.Statement.{statement}
 use Rattle.plan_text.proofs.reading.in_range.Tie as tie
 

@@ -1,6 +1,7 @@
+-- `plan_text::reading::op_of` meets its contract: one return for each kind.
 use borrow.Author.Tests.{eq-eqb, ne-eqb}
-use Rattle.plan_text.specs.Meant.{opOf}
 use borrow.Author.Needs.{needs}
+use Rattle.plan_text.specs.Meant.{opOf}
 use Rattle.plan_text.proofs.reading.op_of.Statement.{statement}
 use Rattle.plan_text.proofs.reading.op_of.Tie as tie
 

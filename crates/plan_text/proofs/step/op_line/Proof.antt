@@ -1,5 +1,6 @@
-use Rattle.plan_text.specs.Written.{opLine}
+-- `plan_text::step::op_line` meets its contract: one arm for each kind of task.
 use borrow.Author.Needs.{needs}
+use Rattle.plan_text.specs.Written.{opLine}
 use Rattle.plan_text.proofs.step.op_line.Statement.{statement}
 use Rattle.plan_text.proofs.step.op_line.Tie as tie
 

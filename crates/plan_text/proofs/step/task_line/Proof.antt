@@ -1,5 +1,6 @@
-use Rattle.plan_text.specs.Written.{taskLine}
+-- `plan_text::step::task_line` meets its contract.
 use borrow.Author.Needs.{needs}
+use Rattle.plan_text.specs.Written.{taskLine}
 use Rattle.plan_text.proofs.step.task_line.Statement.{statement}
 use Rattle.plan_text.proofs.step.task_line.Tie as tie
 

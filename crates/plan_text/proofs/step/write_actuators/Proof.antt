@@ -1,9 +1,10 @@
+-- `plan_text::step::write_actuators` meets its contract: the loop has written the lines of the first i actuators.
 use mathlib.Core.Path.{_≡_, ap, _∙_}
 use mathlib.Core.List.{[], _∷_}
 use Prim.Native.Nat.{ℕ, _-_, _*_, _≤_}
 use native.Mathlib.Omega.{arith}
-use borrow.Author.Needs.{needs}
 use lib.ListN.{getD}
+use borrow.Author.Needs.{needs}
 use Rattle.plan_text.specs.Line.{lineSize}
 use Rattle.plan_text.specs.Reader.{placed}
 use Rattle.plan_text.proofs.WriterLaws.{rowsOf, lines-none, lines-size, lines-more}
@@ -20,16 +21,26 @@ loop-holds : tie.Need-loop-holds Inv-loop μ-loop
 loop-holds c = (search needs, lines-none (c .before .args .out .now) (c .before .args .from) (λ k. 30 ∷ k ∷ getD (c .before .args .table .now) k 0 ∷ 0 ∷ 0 ∷ 0 ∷ []))
 
 write-line-requires : tie.Need-write-line-requires Inv-loop μ-loop
-write-line-requires c κs = (omega (arith, lines-size (c .before .before .before .before .before .before .args .out .now) (c .before .before .before .before .before .before .args .from) (λ k. 30 ∷ k ∷ getD (c .before .before .before .before .before .before .args .table .now) k 0 ∷ 0 ∷ 0 ∷ 0 ∷ []) (c .before .before .before .before .loop .i) (c .before .before .before .before .loop .out) (c .before .before .before .before .loop .inv .1) (omega (arith, c .before .before .before .before .before .before .pre))), omega (arith, c .before .before .before .before .before .before .pre))
+write-line-requires c κs =
+    let start = c .before .before .before .before .before .before in
+    let loop = c .before .before .before .before .loop in
+    (omega (arith, lines-size (start .args .out .now) (start .args .from) (λ k. 30 ∷ k ∷ getD (start .args .table .now) k 0 ∷ 0 ∷ 0 ∷ 0 ∷ []) (loop .i) (loop .out) (loop .inv .1) (omega (arith, start .pre))), omega (arith, start .pre))
 
 loop-again : tie.Need-loop-again Inv-loop μ-loop
-loop-again c = (search needs, lines-more _ _ (λ k. 30 ∷ k ∷ getD (c .before .before .before .before .before .before .before .before .before .args .table .now) k 0 ∷ 0 ∷ 0 ∷ 0 ∷ []) (c .before .before .before .before .before .before .before .loop .i) (c .before .before .before .before .before .before .before .loop .out) (c .before .before .before .before .before .before .before .loop .inv .1) _ _ (omega (arith, c .before .before .before .before .before .before .before .before .before .pre)) (c .before .before .before .numbers .ensures) (c .before .before .write-line .ensures))
+loop-again c =
+    let start = c .before .before .before .before .before .before .before .before .before in
+    let loop = c .before .before .before .before .before .before .before .loop in
+    (search needs, lines-more _ _ (λ k. 30 ∷ k ∷ getD (start .args .table .now) k 0 ∷ 0 ∷ 0 ∷ 0 ∷ []) (loop .i) (loop .out) (loop .inv .1) _ _ (omega (arith, start .pre)) (c .before .before .before .numbers .ensures) (c .before .before .write-line .ensures))
 
 same-length : tie.Need-same-length Inv-loop μ-loop
-same-length c = lines-size (c .before .before .before .args .out .now) (c .before .before .before .args .from) (λ k. 30 ∷ k ∷ getD (c .before .before .before .args .table .now) k 0 ∷ 0 ∷ 0 ∷ 0 ∷ []) (c .before .loop .i) (c .before .loop .out) (c .before .loop .inv .1) (omega (arith, c .before .before .before .pre))
+same-length c =
+    let start = c .before .before .before in
+    lines-size (start .args .out .now) (start .args .from) (λ k. 30 ∷ k ∷ getD (start .args .table .now) k 0 ∷ 0 ∷ 0 ∷ 0 ∷ []) (c .before .loop .i) (c .before .loop .out) (c .before .loop .inv .1) (omega (arith, start .pre))
 
 returns : tie.Need-returns Inv-loop μ-loop
-returns c = let e : c .before .loop .i ≡ c .before .before .before .args .count = omega arith in c .before .loop .inv .1 ∙ ap (λ (n : ℕ). placed (c .before .before .before .args .out .now) (lineSize * c .before .before .before .args .from) (rowsOf (λ k. 30 ∷ k ∷ getD (c .before .before .before .args .table .now) k 0 ∷ 0 ∷ 0 ∷ 0 ∷ []) n)) e
+returns c =
+    let start = c .before .before .before in
+    let e : c .before .loop .i ≡ start .args .count = omega arith in c .before .loop .inv .1 ∙ ap (λ (n : ℕ). placed (start .args .out .now) (lineSize * start .args .from) (rowsOf (λ k. 30 ∷ k ∷ getD (start .args .table .now) k 0 ∷ 0 ∷ 0 ∷ 0 ∷ []) n)) e
 
 pub write-actuators-spec : {M : Type 1} → statement M
 write-actuators-spec =

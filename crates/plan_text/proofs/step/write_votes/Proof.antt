@@ -1,16 +1,17 @@
-use Rattle.plan_text.proofs.WriterLaws.{voteRows, votes-none, votes-size, votes-hit, votes-miss}
+-- `plan_text::step::write_votes` meets its contract: the loop has written the lines of the votes of the entries below e.
 use mathlib.Core.Path.{_≡_, ap, _∙_}
 use mathlib.Core.Bool.{Bool, false}
 use mathlib.Core.Logic.{⊎-elim}
 use Prim.Native.Nat.{ℕ, _+_, _-_, _*_, _≤_}
 use native.Mathlib.Omega.{arith}
-use borrow.Author.Needs.{needs}
 use lib.ListN.{getD}
+use borrow.Author.Needs.{needs}
 use Rattle.array.specs.Index.{howMany}
 use Rattle.array.proofs.IndexLaws.{howMany-none, howMany-hit, howMany-miss, howMany-grows}
 use Rattle.plan_text.specs.Line.{lineSize}
 use Rattle.plan_text.specs.Written.{voteLine}
 use Rattle.plan_text.specs.Reader.{placed}
+use Rattle.plan_text.proofs.WriterLaws.{voteRows, votes-none, votes-size, votes-hit, votes-miss}
 use Rattle.plan_text.proofs.step.write_votes.Statement.{statement}
 use Rattle.plan_text.proofs.step.write_votes.Tie as tie
 
@@ -27,42 +28,47 @@ loop-holds c =
 
 write-line-requires : tie.Need-write-line-requires Inv-loop μ-loop
 write-line-requires c κs =
-    let q : ℕ → Bool = λ e. getD (c .before .before .before .before .before .before .before .args .voted .now) e false in
+    let start = c .before .before .before .before .before .before .before in
+    let q : ℕ → Bool = λ e. getD (start .args .voted .now) e false in
     let l = c .before .before .before .before .before .loop in
     let more = howMany-hit q (l .e) (c .before .before .if1 .taken) in
     let most = howMany-grows q (l .e + 1) 512 (omega arith) in
-    (omega (arith, c .before .before .before .before .before .before .before .pre, votes-size (c .before .before .before .before .before .before .before .args .out .now) (c .before .before .before .before .before .before .before .args .from) (c .before .before .before .before .before .before .before .args .voted .now) (l .e) (l .out) (l .inv .2) (omega (arith, c .before .before .before .before .before .before .before .pre, howMany-grows q (l .e) 512 (omega arith)))), omega (arith, c .before .before .before .before .before .before .before .pre))
+    (omega (arith, start .pre, votes-size (start .args .out .now) (start .args .from) (start .args .voted .now) (l .e) (l .out) (l .inv .2) (omega (arith, start .pre, howMany-grows q (l .e) 512 (omega arith)))), omega (arith, start .pre))
 
 add-i : tie.Need-add-i Inv-loop μ-loop
 add-i c =
-    let q : ℕ → Bool = λ e. getD (c .before .before .before .before .before .before .before .before .before .before .args .voted .now) e false in
+    let start = c .before .before .before .before .before .before .before .before .before .before in
+    let q : ℕ → Bool = λ e. getD (start .args .voted .now) e false in
     let l = c .before .before .before .before .before .before .before .before .loop in
     let more = howMany-hit q (l .e) (c .before .before .before .before .before .if1 .taken) in
     let most = howMany-grows q (l .e + 1) 512 (omega arith) in
-    omega (arith, c .before .before .before .before .before .before .before .before .before .before .pre)
+    omega (arith, start .pre)
 
 loop-again : tie.Need-loop-again Inv-loop μ-loop
 unfolding voteLine
 loop-again c =
-    let q : ℕ → Bool = λ e. getD (c .before .before .before .before .before .args .voted .now) e false in
+    let start = c .before .before .before .before .before in
+    let q : ℕ → Bool = λ e. getD (start .args .voted .now) e false in
     let l = c .before .before .before .loop in
     ⊎-elim
-    (λ w. (search needs, omega (arith, howMany-hit q (l .e) (w .0 .taken)), votes-hit (c .before .before .before .before .before .args .out .now) (c .before .before .before .before .before .args .from) (c .before .before .before .before .before .args .voted .now) (l .e) (l .out) (l .inv .2) _ _ (l .i) (omega (arith, c .before .before .before .before .before .pre)) (w .0 .taken) (w .2 .ensures) (l .inv .1) (w .6 ∙ w .3 .ensures)))
-    (λ w. (search needs, omega (arith, howMany-miss q (l .e) (w .0 .left)), w .1 ∙ votes-miss (c .before .before .before .before .before .args .out .now) (c .before .before .before .before .before .args .from) (c .before .before .before .before .before .args .voted .now) (l .e) (l .out) (l .inv .2) (w .0 .left)))
+    (λ w. (search needs, omega (arith, howMany-hit q (l .e) (w .0 .taken)), votes-hit (start .args .out .now) (start .args .from) (start .args .voted .now) (l .e) (l .out) (l .inv .2) _ _ (l .i) (omega (arith, start .pre)) (w .0 .taken) (w .2 .ensures) (l .inv .1) (w .6 ∙ w .3 .ensures)))
+    (λ w. (search needs, omega (arith, howMany-miss q (l .e) (w .0 .left)), w .1 ∙ votes-miss (start .args .out .now) (start .args .from) (start .args .voted .now) (l .e) (l .out) (l .inv .2) (w .0 .left)))
     (c .if1 .came)
 
 same-length : tie.Need-same-length Inv-loop μ-loop
 same-length c =
-    let q : ℕ → Bool = λ e. getD (c .before .before .before .args .voted .now) e false in
+    let start = c .before .before .before in
+    let q : ℕ → Bool = λ e. getD (start .args .voted .now) e false in
     let l = c .before .loop in
-    votes-size (c .before .before .before .args .out .now) (c .before .before .before .args .from) (c .before .before .before .args .voted .now) (l .e) (l .out) (l .inv .2) (omega (arith, c .before .before .before .pre, howMany-grows q (l .e) 512 (omega arith)))
+    votes-size (start .args .out .now) (start .args .from) (start .args .voted .now) (l .e) (l .out) (l .inv .2) (omega (arith, start .pre, howMany-grows q (l .e) 512 (omega arith)))
 
 returns : tie.Need-returns Inv-loop μ-loop
 returns c =
-    let q : ℕ → Bool = λ e. getD (c .before .before .before .args .voted .now) e false in
+    let start = c .before .before .before in
+    let q : ℕ → Bool = λ e. getD (start .args .voted .now) e false in
     let l = c .before .loop in
     let d : l .e ≡ 512 = omega arith in
-    (l .inv .1 ∙ ap (λ (n : ℕ). c .before .before .before .args .from + howMany q n) d, l .inv .2 ∙ ap (λ (n : ℕ). placed (c .before .before .before .args .out .now) (lineSize * c .before .before .before .args .from) (voteRows (c .before .before .before .args .voted .now) n)) d)
+    (l .inv .1 ∙ ap (λ (n : ℕ). start .args .from + howMany q n) d, l .inv .2 ∙ ap (λ (n : ℕ). placed (start .args .out .now) (lineSize * start .args .from) (voteRows (start .args .voted .now) n)) d)
 
 pub write-votes-spec : {M : Type 1} → statement M
 write-votes-spec =

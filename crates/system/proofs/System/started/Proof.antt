@@ -50,7 +50,7 @@ loop-again : tie.Need-loop-again Inv-loop μ-loop
 loop-again c = (search needs, ap {B = List Memory} (λ (l : List Memory). set l (c .before .loop .i) (c .before .before .before .power-on .result)) (c .before .loop .inv .1) ∙ fill-more (λ k. c .before .before .before .power-on .result) (c .before .loop .i) (zeroSystem .memories) _ refl, ap {B = List ℕ} (λ (l : List ℕ). set l (c .before .loop .i) (c .before .before .before .before .args .period)) (c .before .loop .inv .2) ∙ fill-more (λ k. c .before .before .before .before .args .period) (c .before .loop .i) (zeroSystem .good) _ refl)
 
 returns : tie.Need-returns Inv-loop μ-loop
-returns c = 
+returns c =
     let l = c .before in
     let a = l .before .before .before .args in
     let m = l .before .before .power-on in

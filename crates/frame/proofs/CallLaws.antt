@@ -1,0 +1,140 @@
+-- Laws for the proofs of the calls: what is answered, and what becomes of record and place, by the way a call goes.
+use mathlib.Core.Path.{_≡_, sym, _∙_}
+use mathlib.Core.Bool.{Bool, true, false, not, _&&_}
+use mathlib.Core.List.{List}
+use Prim.Native.Nat.{ℕ, _^_}
+use lib.Dec.{eqb, leb, ltb}
+use lib.ListN.{length, getD}
+use borrow.Author.Tests.{eqb-true, not-true, not-false}
+use Rattle.array.specs.Index.{allBelow, howMany, fill}
+use Rattle.array.proofs.TestLaws.{and-left, and-right}
+use Rattle.answer.specs.declared.Answer.the-variants.{Done, InvalidPlan, WrongLength, MaskOrCount}
+use Rattle.plan.specs.declared.Plan.{Plan}
+use Rattle.plan.specs.Known.{period as periodOf}
+use Rattle.plan.specs.Accepted.{accepted}
+use Rattle.node.specs.declared.Memory.{Memory}
+use Rattle.node.specs.declared.Outcome.{Outcome}
+use Rattle.node.specs.Node.{computed, setpoint}
+use Rattle.system.specs.Fault.{faultsSize}
+use Rattle.system.specs.declared.System.{System}
+use Rattle.system.specs.declared.Framed.{Framed}
+use Rattle.system.specs.Frame.{memoryOf, maskOk, countsOk, lengthsOk, inTurn, frameRuns, frameAnswer, framePlace, systemAfter, placeAfter, singlePlace, singleRuns, singleAnswer, singlePlaceAfter, isWorking, workingAnswer, sameMemory, agreeingAnswer}
+
+-- ---- the tests of mask and counts, as the code makes them
+
+module _ (p : Plan) (sys : System) (mask : ℕ) {period : ℕ} (e : period ≡ periodOf p) where
+  pub counts-are : {c : Bool} → c ≡ allBelow (λ i. leb (getD (sys .good) i 0) period) (p .nodes) → c ≡ countsOk p sys
+  unfolding countsOk
+  counts-are h = h ∙ rw e
+
+  pub mask-are : {m c : Bool} → m ≡ ltb mask (2 ^ p .nodes) → c ≡ allBelow (λ i. leb (getD (sys .good) i 0) period) (p .nodes) → (m && c) ≡ (maskOk p mask && countsOk p sys)
+  unfolding maskOk
+  mask-are h k = rw (h, counts-are k)
+
+-- ---- a frame
+
+module _ (p : Plan) (sys : System) (sensors : List ℕ) (mask : ℕ) (faults place : List ℕ) where
+  abbrev framed : Framed
+  framed = frameAnswer p sys sensors mask faults place
+
+  abbrev put : List ℕ
+  put = framePlace p sys sensors mask faults place
+
+  pub frame-plan : accepted p ≡ false → (record { answer = InvalidPlan; system = sys } ≡ framed) × (place ≡ put)
+  unfolding frameAnswer framePlace frameRuns inTurn
+  frame-plan a = (rw a, rw a)
+
+  module _ (a : accepted p ≡ true) where
+    pub frame-mask : (maskOk p mask && countsOk p sys) ≡ false → (record { answer = MaskOrCount; system = sys } ≡ framed) × (place ≡ put)
+    unfolding frameAnswer framePlace frameRuns inTurn
+    frame-mask m = (rw (a, m), rw (a, m))
+
+    module _ (m : (maskOk p mask && countsOk p sys) ≡ true) where
+      pub frame-length : lengthsOk p (length sensors) (length faults) (length place) ≡ false → (record { answer = WrongLength; system = sys } ≡ framed) × (place ≡ put)
+      unfolding frameAnswer framePlace frameRuns inTurn
+      frame-length l = (rw (a, m, l), rw (a, m, l))
+
+      pub frame-done :
+          lengthsOk p (length sensors) (length faults) (length place) ≡ true →
+          {next : System} {now : List ℕ} →
+          (next ≡ systemAfter p sys sensors mask faults) × (now ≡ placeAfter p sys sensors mask faults place) →
+          (record { answer = Done; system = next } ≡ framed) × (now ≡ put)
+      unfolding frameAnswer framePlace frameRuns inTurn
+      frame-done l h = (rw (a, m, l, h .0), rw (a, m, l) (h .1))
+
+-- ---- the single controller's frame
+
+module _ (p : Plan) (m : Memory) (sensors place : List ℕ) where
+  abbrev outcome : Outcome
+  outcome = singleAnswer p m sensors place
+
+  abbrev putOne : List ℕ
+  putOne = singlePlaceAfter p m sensors place
+
+  pub single-plan : accepted p ≡ false → (record { answer = InvalidPlan; memory = m } ≡ outcome) × (place ≡ putOne)
+  unfolding singleAnswer singlePlaceAfter singleRuns inTurn
+  single-plan a = (rw a, rw a)
+
+  module _ (a : accepted p ≡ true) where
+    pub single-length : (eqb (length sensors) (p .sensors) && eqb (length place) (p .actuators)) ≡ false → (record { answer = WrongLength; memory = m } ≡ outcome) × (place ≡ putOne)
+    unfolding singleAnswer singlePlaceAfter singleRuns inTurn
+    single-length l = (rw (a, l), rw (a, l))
+
+    pub single-done :
+        (eqb (length sensors) (p .sensors) && eqb (length place) (p .actuators)) ≡ true →
+        {next : Memory} {now : List ℕ} →
+        next ≡ computed p sensors m →
+        now ≡ fill (setpoint p next) (p .actuators) place →
+        (record { answer = Done; memory = next } ≡ outcome) × (now ≡ putOne)
+    unfolding singleAnswer singlePlaceAfter singleRuns singlePlace inTurn
+    single-done l e h = (rw (a, l, e), rw (a, l, ← e) h)
+
+-- ---- the two counts
+
+module _ (p : Plan) (sys : System) (mask : ℕ) where
+  pub working-plan : accepted p ≡ false → record { answer = InvalidPlan; count = 0 } ≡ workingAnswer p sys mask
+  unfolding workingAnswer inTurn
+  working-plan a = rw a
+
+  module _ (a : accepted p ≡ true) where
+    pub working-mask : (maskOk p mask && countsOk p sys) ≡ false → record { answer = MaskOrCount; count = 0 } ≡ workingAnswer p sys mask
+    unfolding workingAnswer inTurn
+    working-mask m = rw (a, m)
+
+    pub working-done : (maskOk p mask && countsOk p sys) ≡ true → {n : ℕ} → n ≡ howMany (isWorking p sys mask) (p .nodes) → record { answer = Done; count = n } ≡ workingAnswer p sys mask
+    unfolding workingAnswer inTurn
+    working-done m e = rw (a, m, e)
+
+module _ (p : Plan) (sys : System) (s : Memory) where
+  pub agreeing-plan : accepted p ≡ false → record { answer = InvalidPlan; count = 0 } ≡ agreeingAnswer p sys s
+  unfolding agreeingAnswer inTurn
+  agreeing-plan a = rw a
+
+  module _ (a : accepted p ≡ true) where
+    pub agreeing-counts : countsOk p sys ≡ false → record { answer = MaskOrCount; count = 0 } ≡ agreeingAnswer p sys s
+    unfolding agreeingAnswer inTurn
+    agreeing-counts m = rw (a, m)
+
+    pub agreeing-done : countsOk p sys ≡ true → {n : ℕ} → n ≡ howMany (λ i. sameMemory p (memoryOf sys i) s) (p .nodes) → record { answer = Done; count = n } ≡ agreeingAnswer p sys s
+    unfolding agreeingAnswer inTurn
+    agreeing-done m e = rw (a, m, e)
+
+-- ---- the lengths that the test tells
+
+pub lengths-told : (p : Plan) (sensors faults place : ℕ) → lengthsOk p sensors faults place ≡ true → (sensors ≡ p .sensors) × (faults ≡ faultsSize p) × (place ≡ p .actuators)
+unfolding lengthsOk
+lengths-told p sensors faults place h =
+    let front : (eqb sensors (p .sensors) && eqb faults (faultsSize p)) ≡ true = and-left (eqb sensors (p .sensors) && eqb faults (faultsSize p)) (eqb place (p .actuators)) h in (
+      eqb-true _ _ (and-left (eqb sensors (p .sensors)) (eqb faults (faultsSize p)) front),
+      eqb-true _ _ (and-right (eqb sensors (p .sensors)) (eqb faults (faultsSize p)) front),
+      eqb-true _ _ (and-right (eqb sensors (p .sensors) && eqb faults (faultsSize p)) (eqb place (p .actuators)) h),
+    )
+
+-- ---- a test that the code negates
+
+module _ {t x : Bool} (e : t ≡ x) where
+  pub refused-test : not t ≡ true → x ≡ false
+  refused-test h = sym e ∙ not-true t h
+
+  pub passed-test : not t ≡ false → x ≡ true
+  passed-test h = sym e ∙ not-false t h

@@ -1,0 +1,4 @@
+pub mod StepLaws
+pub mod MailLaws
+pub mod FrameLaws
+pub mod CallLaws

@@ -1,0 +1,44 @@
+-- `frame::agreeing` meets its contract: an answer for each way out.
+use mathlib.Core.Path.{_∙_}
+use borrow.Author.Needs.{needs}
+use Rattle.plan.proofs.AnswerLaws.{accepted-period, accepted-of-period, refused-of-period}
+use Rattle.plan.proofs.AcceptedLaws.{shape-of-accepted}
+use Rattle.frame.proofs.CallLaws.{refused-test, passed-test, counts-are, agreeing-plan, agreeing-counts, agreeing-done}
+use Rattle.frame.proofs.agreeing.Statement.{statement}
+use Rattle.frame.proofs.agreeing.Tie as tie
+
+returns : tie.Need-returns
+returns c = agreeing-plan _ _ _ (refused-of-period _ (c .before .accepted-period .ensures) (c .if1 .taken))
+
+counts-ok-requires : tie.Need-counts-ok-requires
+counts-ok-requires c κs = shape-of-accepted _ (accepted-of-period _ (c .before .before .before .accepted-period .ensures) (c .before .before .if1 .left)) .nodes-high
+
+returns-2 : tie.Need-returns-2
+returns-2 c =
+    let r = c .before .before .before .before .before .accepted-period in
+    let a = c .before .before .before .before .before .before .args in
+    let ok = accepted-of-period _ (r .ensures) (c .before .before .before .before .if1 .left) in
+    let tests = counts-are (a .plan) (a .t2) 0 (r .ensures ∙ accepted-period _ ok) (c .before .counts-ok .ensures) in
+    agreeing-counts _ _ _ ok (refused-test tests (c .if2 .taken))
+
+agreeing-requires : tie.Need-agreeing-requires
+agreeing-requires c κs = accepted-of-period _ (c .before .before .before .before .before .accepted-period .ensures) (c .before .before .before .before .if1 .left)
+
+returns-3 : tie.Need-returns-3
+returns-3 c =
+    let r = c .before .before .before .before .before .before .accepted-period in
+    let a = c .before .before .before .before .before .before .before .args in
+    let ok = accepted-of-period _ (r .ensures) (c .before .before .before .before .before .if1 .left) in
+    let tests = counts-are (a .plan) (a .t2) 0 (r .ensures ∙ accepted-period _ ok) (c .before .before .counts-ok .ensures) in
+    agreeing-done _ _ _ ok (passed-test tests (c .before .if2 .left)) (c .agreeing .ensures)
+
+pub agreeing-spec : {M : Type 1} → statement M
+agreeing-spec =
+    tie.close
+    (tie.spec
+    (λ c κs. search needs)
+    returns
+    counts-ok-requires
+    returns-2
+    agreeing-requires
+    returns-3)

@@ -1,0 +1,170 @@
+// The calls on a whole system: a frame under faults, the single controller's frame, and the listing's two counts.
+ghost use mathlib.Core.Path.{_≡_};
+ghost use mathlib.Core.Bool.{true};
+ghost use Prim.Native.Nat.{_≤_, _^_};
+ghost use lib.Dec.{leb, ltb};
+ghost use lib.ListN.{getD};
+ghost use Rattle.array.specs.Index.{allBelow};
+ghost use Rattle.plan.specs.Limits.{mostNodes};
+ghost use Rattle.plan.specs.Accepted.{accepted};
+ghost use Rattle.system.specs.Frame.{lengthsOk, frameAnswer, framePlace, singleAnswer, singlePlaceAfter, workingAnswer, agreeingAnswer};
+use answer::Answer;
+use node::Memory;
+use node::Outcome;
+use plan::Plan;
+use system::Counted;
+use system::Framed;
+use system::System;
+
+pub mod step;
+
+// 9: the mask, and the good counts of the plan's nodes.
+fn mask_ok(nodes: usize, mask: u64) -> bool
+    requires { ⌜ nodes ≤ mostNodes ⌝ }
+    ensures { λ r. ⌜ r ≡ ltb mask (2 ^ nodes) ⌝ }
+{
+    mask >> nodes == 0
+}
+
+fn above(count: u16, period: usize) -> bool
+    ensures { λ r. ⌜ r ≡ ltb period count ⌝ }
+{
+    period < count as usize
+}
+
+fn counts_ok(good: &[u16; System::NODES], nodes: usize, period: usize) -> bool
+    requires { ⌜ nodes ≤ mostNodes ⌝ }
+    ensures { λ r. ⌜ r ≡ allBelow (λ i. leb (getD (now (good .entry)) i 0) period) nodes ⌝ }
+{
+    let mut i: usize = 0;
+    while i < nodes {
+        if above(good[i], period) {
+            return false;
+        }
+        i += 1;
+    }
+    true
+}
+
+// 8: sensors, fault bytes, place.
+fn lengths_ok(plan: Plan, sensors: usize, faults: usize, place: usize) -> bool
+    requires { ⌜ accepted plan ≡ true ⌝ }
+    ensures { λ r. ⌜ r ≡ lengthsOk plan sensors faults place ⌝ }
+{
+    let nodes = plan.nodes;
+    let cells = plan.cells;
+    let actuators = plan.actuators;
+    (sensors == plan.sensors)
+        & (faults == nodes * step::fault_size(nodes, cells, actuators))
+        & (place == actuators)
+}
+
+pub fn frame(
+    plan: Plan,
+    system: System,
+    sensors: &[u64],
+    mask: u64,
+    faults: &[u8],
+    place: &mut [u64],
+) -> Framed
+    ensures { λ r. ⌜ (r ≡ frameAnswer plan system (now (sensors .entry)) mask (now (faults .entry)) (now (place .entry))) × (now (place .exit) ≡ framePlace plan system (now (sensors .entry)) mask (now (faults .entry)) (now (place .entry))) ⌝ }
+{
+    let period = plan::accepted_period(plan);
+    if period == 0 {
+        return Framed {
+            answer: Answer::InvalidPlan,
+            system,
+        };
+    }
+    let nodes = plan.nodes;
+    if !(mask_ok(nodes, mask) & counts_ok(&system.good, nodes, period)) {
+        return Framed {
+            answer: Answer::MaskOrCount,
+            system,
+        };
+    }
+    if !lengths_ok(plan, sensors.len(), faults.len(), place.len()) {
+        return Framed {
+            answer: Answer::WrongLength,
+            system,
+        };
+    }
+    let next = step::frame(plan, period, system, sensors, mask, faults, place);
+    Framed {
+        answer: Answer::Done,
+        system: next,
+    }
+}
+
+pub fn single(plan: Plan, memory: Memory, sensors: &[u64], place: &mut [u64]) -> Outcome
+    ensures { λ r. ⌜ (r ≡ singleAnswer plan memory (now (sensors .entry)) (now (place .entry))) × (now (place .exit) ≡ singlePlaceAfter plan memory (now (sensors .entry)) (now (place .entry))) ⌝ }
+{
+    if plan::accepted_period(plan) == 0 {
+        return Outcome {
+            answer: Answer::InvalidPlan,
+            memory,
+        };
+    }
+    let wanted = plan.sensors;
+    let actuators = plan.actuators;
+    if !((sensors.len() == wanted) & (place.len() == actuators)) {
+        return Outcome {
+            answer: Answer::WrongLength,
+            memory,
+        };
+    }
+    let next = node::step::compute(plan, memory, sensors);
+    node::step::setpoints(plan, next, place);
+    Outcome {
+        answer: Answer::Done,
+        memory: next,
+    }
+}
+
+pub fn working(plan: Plan, system: System, mask: u64) -> Counted
+    ensures { λ r. ⌜ r ≡ workingAnswer plan system mask ⌝ }
+{
+    let period = plan::accepted_period(plan);
+    if period == 0 {
+        return Counted {
+            answer: Answer::InvalidPlan,
+            count: 0,
+        };
+    }
+    let nodes = plan.nodes;
+    if !(mask_ok(nodes, mask) & counts_ok(&system.good, nodes, period)) {
+        return Counted {
+            answer: Answer::MaskOrCount,
+            count: 0,
+        };
+    }
+    let count = step::working(plan, period, system, mask);
+    Counted {
+        answer: Answer::Done,
+        count,
+    }
+}
+
+pub fn agreeing(plan: Plan, system: System, memory: Memory) -> Counted
+    ensures { λ r. ⌜ r ≡ agreeingAnswer plan system memory ⌝ }
+{
+    let period = plan::accepted_period(plan);
+    if period == 0 {
+        return Counted {
+            answer: Answer::InvalidPlan,
+            count: 0,
+        };
+    }
+    let nodes = plan.nodes;
+    if !counts_ok(&system.good, nodes, period) {
+        return Counted {
+            answer: Answer::MaskOrCount,
+            count: 0,
+        };
+    }
+    let count = step::agreeing(plan, system, memory);
+    Counted {
+        answer: Answer::Done,
+        count,
+    }
+}
