@@ -32,10 +32,6 @@ module _ (p : Plan) where
   unfolding poweredOn
   poweredOn-counter = refl
 
-  pub poweredOn-cells : poweredOn p .cells ≡ p .initial
-  unfolding poweredOn
-  poweredOn-cells = refl
-
   module _ (s : Shape p) where
     pub poweredOn-small : poweredOn p .counter < p .frames
     unfolding poweredOn
@@ -57,10 +53,6 @@ module _ (p : Plan) where
 -- ---- compute
 
 module _ (p : Plan) (sensors : List ℕ) (m : Memory) where
-  pub computed-counter : computed p sensors m .counter ≡ (m .counter % p .frames + 1) % p .frames
-  unfolding computed
-  computed-counter = refl
-
   pub computed-small : 0 < p .frames → computed p sensors m .counter < p .frames
   unfolding computed
   computed-small l = mod-lt (m .counter % p .frames + 1) l
@@ -68,10 +60,6 @@ module _ (p : Plan) (sensors : List ℕ) (m : Memory) where
   pub computed-next : m .counter < p .frames → computed p sensors m .counter ≡ (m .counter + 1) % p .frames
   unfolding computed
   computed-next l = rw (mod-eq-of-lt l)
-
-  pub computed-cells : computed p sensors m .cells ≡ runTasks p (m .counter % p .frames) sensors (p .«task_count») (m .cells)
-  unfolding computed
-  computed-cells = refl
 
   pub computed-length : length (computed p sensors m .cells) ≡ length (m .cells)
   unfolding computed

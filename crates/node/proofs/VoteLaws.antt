@@ -28,10 +28,6 @@ use Rattle.node.proofs.MessageLaws.{sentCell-voted, counterIn-message, 
 -- ---- the frame before a counter
 
 module _ (p : Plan) where
-  pub before-small : (c : ℕ) → 0 < p .frames → before p c < p .frames
-  unfolding before
-  before-small c l = mod-lt (c + p .frames - 1) l
-
   -- the frame before the counter that follows g is g
   pub before-next : (g : ℕ) → g < p .frames → before p ((g + 1) % p .frames) ≡ g
   unfolding before

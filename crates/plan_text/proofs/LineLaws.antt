@@ -129,10 +129,6 @@ written-length ls =
 
 -- ---- a text, line by line
 
--- line i, counted from 0, is whole
-pub line-within : (n i : ℕ) → i < n / lineSize → lineSize * i + lineSize ≤ n
-line-within n i l = omega arith
-
 -- the lines of a text from its first
 abbrev pub linesFrom : List ℕ → ℕ → List (List ℕ)
 linesFrom s i = joined (λ k. lineAt s k ∷ []) i
@@ -163,9 +159,6 @@ module _ (ls : List (List ℕ)) (room : (i : ℕ) → i < length ls → Room wid
       let e : i * lineSize ≡ lineSize * i = omega arith in
       ap (numbersOf widths) (slice-holds (written ls) (lineSize * i) lineSize (row widths (getD ls i [])) (rw e at h) (row-size (getD ls i [])))
       ∙ numbers-of-row widths (getD ls i []) (room i l)
-
-  pub written-line : (i : ℕ) → i < length ls → lineAt (written ls) i ≡ getD ls i []
-  written-line i l = lineAt-is (written ls) i (getD ls i []) (written-numbers i l)
 
 pub written-count : (ls : List (List ℕ)) → lineCount (written ls) ≡ length ls
 written-count ls = omega (arith, written-length ls)
