@@ -5,27 +5,31 @@ use mathlib.Core.List.{List, _++_}
 use Prim.Native.Nat.{ℕ, _+_, _*_, _≤_, _<_, min}
 use native.Mathlib.Omega.{arith}
 use lib.ListN.{length, getD, take, length-append}
-use lib.Seq.{take-at}
+use lib.Dec.{ltb}
+use lib.Seq.{ext-getD, take-at}
+use borrow.Author.Tests.{ltb-true, ltb-false}
 use Rattle.array.specs.Index.{fill, joined, from}
 use Rattle.array.specs.Bit.{bit}
+use Rattle.array.specs.Word.{be}
 use Rattle.array.proofs.TestLaws.{split}
-use Rattle.array.proofs.PlacesLaws.{fill-in, fill-same, joined-same, joined-length}
+use Rattle.array.proofs.PlacesLaws.{fill-length, fill-in, fill-out, fill-same, joined-same, joined-length}
 use Rattle.plan.specs.declared.Plan.{Plan}
 use Rattle.plan.specs.Limits.{mostNodes, mostActuators}
 use Rattle.plan.specs.Known.{period as periodOf}
 use Rattle.plan.specs.Accepted.{accepted}
-use Rattle.plan.proofs.AcceptedLaws.{shape-of-accepted}
+use Rattle.plan.proofs.AcceptedLaws.{Shape, shape-of-accepted}
 use Rattle.plan.proofs.PeriodLaws.{period-bound}
 use Rattle.plan.proofs.WalkedLaws.{bound-small}
 use Rattle.node.specs.declared.Memory.{Memory}
-use Rattle.node.specs.Size.{cellAt, binSize, binAt, mailboxSize}
-use Rattle.node.specs.Node.{zeroMemory, computed, messageOf, voted, setpoint}
+use Rattle.node.specs.Size.{counterSize, patternSize, cellAt, binSize, binAt, mailboxSize}
+use Rattle.node.specs.Node.{zeroMemory, computed, messageOf, setpoint}
+use Rattle.node.proofs.NodeLaws.{computed-length, computed-past}
 use Rattle.node.proofs.MessageLaws.{message-length}
 use Rattle.system.specs.declared.System.{System}
-use Rattle.system.specs.Fault.{faultMemory, faultSetpoint}
+use Rattle.system.specs.Fault.{faultAt, faultMemory, faultSetpoint}
 use Rattle.system.specs.Plane.{plane}
 use Rattle.system.specs.Frame.{computedBy, heard, mailboxOf, memoryAfter, putOut, goodAfter, systemAfter, placeAfter}
-use Rattle.frame.specs.Mail.{patched}
+use Rattle.frame.specs.Mail.{patched, after}
 use Rattle.frame.proofs.StepLaws.{block-small, plane-same}
 use Rattle.frame.proofs.MailLaws.{bin-of}
 
@@ -48,12 +52,54 @@ front-again box rest k e z = take-at box rest k (e ∙ sym z)
 pub front-fits : (box rest : List ℕ) {n : ℕ} → length box ≡ n → n ≤ length (box ++ rest)
 front-fits box rest e = rw length-append (omega arith)
 
-pub voted-front :
-    (p : Plan) (mask : ℕ) (faults : List ℕ) (old own memories : List Memory) {seen box : List ℕ} →
+pub after-front :
+    (p : Plan) (mask : ℕ) (faults : List ℕ) (own memories : List Memory) {seen box : List ℕ} →
     seen ≡ box →
-    memories ≡ fill (λ i. cond (bit mask i) (faultMemory p faults i (getD old i zeroMemory)) (voted p (getD own i zeroMemory) (joined (patched p faults mask i seen) (p .nodes)))) (p .nodes) old →
-    memories ≡ fill (λ i. cond (bit mask i) (faultMemory p faults i (getD old i zeroMemory)) (voted p (getD own i zeroMemory) (joined (patched p faults mask i box) (p .nodes)))) (p .nodes) old
-voted-front p mask faults old own memories e h = h ∙ rw e
+    memories ≡ fill (λ i. after p faults mask seen i (getD own i zeroMemory)) (p .nodes) own →
+    memories ≡ fill (λ i. after p faults mask box i (getD own i zeroMemory)) (p .nodes) own
+after-front p mask faults own memories e h = h ∙ rw e
+
+-- ---- what a fault leaves does not hang on the tasks that ran before it
+
+pub fill-again : {A : Type 0} (d : A) (f g : ℕ → A) (n : ℕ) (l : List A) → fill f n (fill g n l) ≡ fill f n l
+fill-again d f g n l =
+    ext-getD d (fill f n (fill g n l)) (fill f n l) (long ∙ sym (fill-length f n l))
+    (λ i h.
+    split (ltb i n)
+    (λ t.
+    fill-in f n (fill g n l) i d (ltb-true i n t) (omega (arith, long, fill-length g n l))
+    ∙ sym (fill-in f n l i d (ltb-true i n t) (omega (arith, long))))
+    (λ t.
+    fill-out f n (fill g n l) i d (ltb-false i n t)
+    ∙ fill-out g n l i d (ltb-false i n t)
+    ∙ sym (fill-out f n l i d (ltb-false i n t))))
+  where
+    long : length (fill f n (fill g n l)) ≡ length l
+    long = fill-length f n (fill g n l) ∙ fill-length g n l
+
+pub fault-computed : (p : Plan) → Shape p → (faults sensors : List ℕ) (i : ℕ) (m : Memory) → faultMemory p faults i (computed p sensors m) ≡ faultMemory p faults i m
+unfolding faultMemory
+fault-computed p s faults sensors i m = λ k. record { counter = be counterSize faults (faultAt p i); cells = cells k }
+  where
+    read : ℕ → ℕ
+    read c = be patternSize faults (faultAt p i + cellAt c)
+
+    long : length (fill read (p .cells) (computed p sensors m .cells)) ≡ length (m .cells)
+    long = fill-length read (p .cells) (computed p sensors m .cells) ∙ computed-length p sensors m
+
+    cells : fill read (p .cells) (computed p sensors m .cells) ≡ fill read (p .cells) (m .cells)
+    cells =
+        ext-getD 0 (fill read (p .cells) (computed p sensors m .cells)) (fill read (p .cells) (m .cells))
+        (long ∙ sym (fill-length read (p .cells) (m .cells)))
+        (λ c h.
+        split (ltb c (p .cells))
+        (λ t.
+        fill-in read (p .cells) (computed p sensors m .cells) c 0 (ltb-true c (p .cells) t) (omega (arith, long, computed-length p sensors m))
+        ∙ sym (fill-in read (p .cells) (m .cells) c 0 (ltb-true c (p .cells) t) (omega (arith, long))))
+        (λ t.
+        fill-out read (p .cells) (computed p sensors m .cells) c 0 (ltb-false c (p .cells) t)
+        ∙ computed-past p sensors m s c (ltb-false c (p .cells) t)
+        ∙ sym (fill-out read (p .cells) (m .cells) c 0 (ltb-false c (p .cells) t))))
 
 -- ---- the frame
 
@@ -63,7 +109,7 @@ module _
     (own : List Memory) (own-is : own ≡ fill (λ j. computed p sensors (getD (sys .memories) j zeroMemory)) (p .nodes) (sys .memories))
     (box : List ℕ) (box-is : box ≡ joined (λ j. messageOf p (getD own j zeroMemory)) (p .nodes))
     (memories : List Memory)
-    (memories-are : memories ≡ fill (λ i. cond (bit mask i) (faultMemory p faults i (getD (sys .memories) i zeroMemory)) (voted p (getD own i zeroMemory) (joined (patched p faults mask i box) (p .nodes)))) (p .nodes) (sys .memories))
+    (memories-are : memories ≡ fill (λ i. after p faults mask box i (getD own i zeroMemory)) (p .nodes) own)
   where
     few : p .nodes ≤ mostNodes
     few = shape-of-accepted p accept .nodes-high
@@ -71,6 +117,10 @@ module _
     own-at : (j : ℕ) → j < p .nodes → getD own j zeroMemory ≡ computedBy p sys sensors mask faults j
     unfolding computedBy
     own-at j l = ap (λ (o : List Memory). getD o j zeroMemory) own-is ∙ fill-in _ (p .nodes) (sys .memories) j zeroMemory l (omega (arith, few))
+
+    fault-at : (i : ℕ) → faultMemory p faults i (computedBy p sys sensors mask faults i) ≡ faultMemory p faults i (getD (sys .memories) i zeroMemory)
+    unfolding computedBy
+    fault-at i = fault-computed p (shape-of-accepted p accept) faults sensors i (getD (sys .memories) i zeroMemory)
 
     bin-at : (j : ℕ) → j < p .nodes → from 0 box (binAt p j) (binSize p) ≡ messageOf p (computedBy p sys sensors mask faults j)
     bin-at j l =
@@ -84,11 +134,16 @@ module _
         joined-same (patched p faults mask i box) (heard p sys sensors mask faults i) (p .nodes)
         (λ j l. split (bit mask j) (λ t. rw t) (λ t. rw t (bin-at j l)))
 
+    after-is : (i : ℕ) → i < p .nodes → after p faults mask box i (getD own i zeroMemory) ≡ memoryAfter p sys sensors mask faults i
+    unfolding after memoryAfter
+    after-is i l = rw (own-at i l, heard-is i, fault-at i)
+
     pub memories-after : memories ≡ fill (memoryAfter p sys sensors mask faults) (p .nodes) (sys .memories)
-    unfolding memoryAfter
     memories-after =
         memories-are
-        ∙ fill-same _ (memoryAfter p sys sensors mask faults) (p .nodes) (sys .memories) (λ i l. rw (own-at i l, heard-is i))
+        ∙ fill-same _ (memoryAfter p sys sensors mask faults) (p .nodes) own after-is
+        ∙ ap (fill (memoryAfter p sys sensors mask faults) (p .nodes)) own-is
+        ∙ fill-again zeroMemory _ _ (p .nodes) (sys .memories)
 
     memory-at : (j : ℕ) → j < p .nodes → getD memories j zeroMemory ≡ memoryAfter p sys sensors mask faults j
     memory-at j l = ap (λ (m : List Memory). getD m j zeroMemory) memories-after ∙ fill-in _ (p .nodes) (sys .memories) j zeroMemory l (omega (arith, few))

@@ -13,17 +13,17 @@ use Rattle.array.specs.Index.{fill, joined, from}
 use Rattle.array.specs.Bit.{bit}
 use Rattle.array.specs.Word.{be, bytes}
 use Rattle.array.proofs.TestLaws.{split}
-use Rattle.array.proofs.PlacesLaws.{Holds, fill-length, fill-in, joined-same, joined-holds, from-length}
+use Rattle.array.proofs.PlacesLaws.{Holds, fill-length, fill-in, fill-same, joined-same, joined-holds, from-length}
 use Rattle.plan.specs.declared.Plan.{Plan}
 use Rattle.plan.specs.Limits.{mostNodes, mostActuators}
-use Rattle.plan.specs.Accepted.{accepted}
-use Rattle.plan.proofs.AcceptedLaws.{shape-of-accepted}
 use Rattle.node.specs.declared.Memory.{Memory}
-use Rattle.node.specs.Node.{voted, setpoint}
+use Rattle.node.specs.Node.{before, counterIn, cellIn, votedCounter, votedCell, voted, setpoint, zeroMemory}
+use Rattle.plan.specs.Known.{votedIn}
+use Rattle.node.proofs.StepLaws.{lent}
 use Rattle.node.specs.Size.{counterSize, patternSize, cellAt, binSize, binAt}
-use Rattle.system.specs.Fault.{faultSize, faultsSize, faultAt, faultMemory, faultMessage, faultSetpoint}
+use Rattle.system.specs.Fault.{faultSize, faultAt, faultMemory, faultMessage, faultSetpoint}
 use Rattle.system.proofs.FaultLaws.{faultMessage-length}
-use Rattle.frame.specs.Mail.{placed, patched}
+use Rattle.frame.specs.Mail.{Small, Counts, allFaults, placed, patched, after}
 use Rattle.frame.proofs.StepLaws.{faults-small}
 
 -- ---- the entries of a part
@@ -272,34 +272,41 @@ part-length s at k e z l = length-take-le k (drop at s) (rw length-drop (omega a
 
 -- ---- places in the fault bytes
 
-module _ (p : Plan) (size block : ℕ) (es : size ≡ cellAt (p .cells)) (eb : block ≡ cellAt (p .cells) + p .nodes * cellAt (p .cells) + patternSize * p .actuators) where
-  block-is : block ≡ size + p .nodes * size + patternSize * p .actuators
-  block-is = rw es eb
+module _ (nodes cells actuators size block : ℕ) (es : size ≡ cellAt cells) (eb : block ≡ cellAt cells + nodes * cellAt cells + patternSize * actuators) where
+  block-parts : block ≡ size + nodes * size + patternSize * actuators
+  block-parts = rw es eb
 
-  module _ (faults : List ℕ) (el : length faults ≡ faultsSize p) where
-    faults-long : length faults ≡ p .nodes * block
+  module _ (faults : List ℕ) (el : length faults ≡ allFaults nodes cells actuators) where
+    faults-long : length faults ≡ nodes * block
     faults-long = el ∙ rw eb
 
-    block-ends : (j : ℕ) → j < p .nodes → j * block + block ≤ length faults
+    block-ends : (j : ℕ) → j < nodes → j * block + block ≤ length faults
     block-ends j l =
-        let h : suc j * block ≤ p .nodes * block = mul-le-mul-right block l in
+        let h : suc j * block ≤ nodes * block = mul-le-mul-right block l in
         omega (arith, suc-mul j block, faults-long)
 
-    pub memory-ends : (j : ℕ) → j < p .nodes → j * block + size ≤ length faults
-    memory-ends j l = omega (arith, block-ends j l, block-is)
+    pub memory-ends : (j : ℕ) → j < nodes → j * block + size ≤ length faults
+    memory-ends j l = omega (arith, block-ends j l, block-parts)
 
-    pub message-ends : (j i : ℕ) → j < p .nodes → i < p .nodes → j * block + size + i * size + size ≤ length faults
+    pub message-ends : (j i : ℕ) → j < nodes → i < nodes → j * block + size + i * size + size ≤ length faults
     message-ends j i l m =
-        let h : suc i * size ≤ p .nodes * size = mul-le-mul-right size m in
-        omega (arith, block-ends j l, block-is, suc-mul i size)
+        let h : suc i * size ≤ nodes * size = mul-le-mul-right size m in
+        omega (arith, block-ends j l, block-parts, suc-mul i size)
 
-    pub setpoints-end : (j : ℕ) → j < p .nodes → j * block + size + p .nodes * size + patternSize * p .actuators ≤ length faults
-    setpoints-end j l = omega (arith, block-ends j l, block-is)
+    pub setpoints-end : (j : ℕ) → j < nodes → j * block + size + nodes * size + patternSize * actuators ≤ length faults
+    setpoints-end j l = omega (arith, block-ends j l, block-parts)
 
-    pub faults-few : accepted p ≡ true → length faults ≤ 14896
-    faults-few a =
-        let s = shape-of-accepted p a in
-        omega (arith, faults-long, faults-small (p .nodes) (p .cells) (p .actuators) (s .nodes-high) (s .cells-le) (s .actuators-le) block eb)
+    pub faults-few : Small nodes cells actuators → length faults ≤ 14896
+    faults-few s = omega (arith, faults-long, faults-small nodes cells actuators (s .0) (s .1) (s .2) block eb)
+
+-- ---- sizes by what is lent of a plan
+
+module _ (p : Plan) {nodes cells actuators : ℕ} (h : Counts p nodes cells actuators) where
+  pub size-is : {size : ℕ} → size ≡ cellAt cells → size ≡ binSize p
+  size-is e = e ∙ rw (h .1)
+
+  pub block-is : {block : ℕ} → block ≡ cellAt cells + nodes * cellAt cells + patternSize * actuators → block ≡ faultSize p
+  block-is e = e ∙ rw (h .0, h .1, h .2)
 
 -- ---- what receiver i hears
 
@@ -345,26 +352,46 @@ module _ (p : Plan) (faults : List ℕ) (mask i : ℕ) where
 -- ---- a bad node's memory
 
 pub fault-is :
-    (p : Plan) (faults : List ℕ) (i : ℕ) (old r : Memory) {block : ℕ} →
-    block ≡ faultSize p →
-    (r .counter ≡ be counterSize faults (i * block)) × (r .cells ≡ fill (λ c. be patternSize faults (i * block + cellAt c)) (p .cells) (old .cells)) →
+    (p : Plan) (faults : List ℕ) (i : ℕ) (old r : Memory) {at cells : ℕ} →
+    at ≡ faultAt p i →
+    p .cells ≡ cells →
+    (r .counter ≡ be counterSize faults at) × (r .cells ≡ fill (λ c. be patternSize faults (at + cellAt c)) cells (old .cells)) →
     r ≡ faultMemory p faults i old
 unfolding faultMemory
-fault-is p faults i old r {block} e h =
+fault-is p faults i old r {at} {cells} e l h =
     let a : r .counter ≡ be counterSize faults (faultAt p i) = h .0 ∙ rw e in
-    let b : r .cells ≡ fill (λ c. be patternSize faults (faultAt p i + cellAt c)) (p .cells) (old .cells) = h .1 ∙ rw e in
+    let b : r .cells ≡ fill (λ c. be patternSize faults (faultAt p i + cellAt c)) (p .cells) (old .cells) = h .1 ∙ rw (e, l) in
     λ k. record { counter = a k; cells = b k }
 
 -- ---- a node after the frame
 
-pub memory-next :
-    (p : Plan) (faults : List ℕ) (mask i : ℕ) (box start : List ℕ) {r was old has own : Memory} →
-    ((k : ℕ) → k < p .nodes → bit mask k ≡ false → from 0 box (binAt p k) (binSize p) ≡ from 0 start (binAt p k) (binSize p)) →
-    was ≡ old →
-    has ≡ own →
-    r ≡ cond (bit mask i) (faultMemory p faults i was) (voted p has (joined (patched p faults mask i box) (p .nodes))) →
-    r ≡ cond (bit mask i) (faultMemory p faults i old) (voted p own (joined (patched p faults mask i start) (p .nodes)))
-memory-next p faults mask i box start e a b h = h ∙ rw (a, b, patched-same p faults mask i box start e)
+module _ (p : Plan) (faults : List ℕ) (mask i : ℕ) where
+  -- it depends on the bins of good senders only
+  pub after-same :
+      (box start : List ℕ) {r has own : Memory} →
+      ((k : ℕ) → k < p .nodes → bit mask k ≡ false → from 0 box (binAt p k) (binSize p) ≡ from 0 start (binAt p k) (binSize p)) →
+      has ≡ own →
+      r ≡ after p faults mask box i has →
+      r ≡ after p faults mask start i own
+  unfolding after
+  after-same box start e a h = h ∙ rw (a, patched-same p faults mask i box start e)
+
+  after-lent :
+      (box : List ℕ) (own : Memory) {nodes frames cells actuators : ℕ} {votes : List Bool} →
+      Counts p nodes cells actuators → p .frames ≡ frames → p .voted ≡ votes →
+      after (lent nodes frames cells actuators votes []) faults mask box i own ≡ after p faults mask box i own
+  unfolding after faultMemory patched faultMessage voted votedCounter votedCell counterIn cellIn before votedIn
+  after-lent box own h f v = rw (← h .0, ← h .1, ← h .2, ← f, ← v)
+
+pub all-lent :
+    (p : Plan) (faults : List ℕ) (mask : ℕ) (box : List ℕ) (own : List Memory) {nodes frames cells actuators : ℕ} {votes : List Bool} {all : List Memory} →
+    all ≡ fill (λ i. after (lent nodes frames cells actuators votes []) faults mask box i (getD own i zeroMemory)) nodes own →
+    Counts p nodes cells actuators → p .frames ≡ frames → p .voted ≡ votes →
+    all ≡ fill (λ i. after p faults mask box i (getD own i zeroMemory)) (p .nodes) own
+all-lent p faults mask box own {nodes} e h f v =
+    e
+    ∙ fill-same _ (λ i. after p faults mask box i (getD own i zeroMemory)) nodes own (λ i l. after-lent p faults mask i box (getD own i zeroMemory) h f v)
+    ∙ ap (λ (n : ℕ). fill (λ i. after p faults mask box i (getD own i zeroMemory)) n own) (sym (h .0))
 
 -- ---- by the test of a bit
 
@@ -380,11 +407,12 @@ module _ {A : Type 0} (mask j : ℕ) {b : Bool} (e : b ≡ bit mask j) (x y : A)
 pub put-same : (p : Plan) {b t : Bool} {m own : Memory} (x a : ℕ) → b ≡ t → m ≡ own → cond b x (setpoint p m a) ≡ cond t x (setpoint p own a)
 put-same p x a e h = rw (e, h)
 
-pub setpoint-is :
-    (p : Plan) (faults : List ℕ) {size block : ℕ} → size ≡ binSize p → block ≡ faultSize p → (b : Bool) (j a y : ℕ) →
-    cond b (be patternSize faults (j * block + size + p .nodes * size + patternSize * a)) y ≡ cond b (faultSetpoint p faults j a) y
-unfolding faultSetpoint
-setpoint-is p faults es eb b j a y = rw (es, eb)
+pub put-lent :
+    (p : Plan) (faults : List ℕ) {nodes cells actuators size block : ℕ} {table : List ℕ} →
+    Counts p nodes cells actuators → p .«actuator_cell» ≡ table → size ≡ binSize p → block ≡ faultSize p → (b : Bool) (j a : ℕ) (m : Memory) →
+    cond b (be patternSize faults (j * block + size + nodes * size + patternSize * a)) (setpoint (lent 0 0 0 0 [] table) m a) ≡ cond b (faultSetpoint p faults j a) (setpoint p m a)
+unfolding faultSetpoint setpoint
+put-lent p faults h t es eb b j a m = rw (es, eb, ← h .0, ← t)
 
 -- row j is written
 module _

@@ -2,9 +2,10 @@
 use mathlib.Core.Path.{_≡_, refl, sym, _∙_}
 use mathlib.Core.Bool.{Bool, true, false, not, cond, _&&_}
 use mathlib.Core.List.{List, [], _∷_, map}
+use mathlib.Core.Logic.{_⊎_, ⊎-elim}
 use Prim.Native.Nat.{ℕ, zero, suc, _+_, _*_, _/_, _^_, _≤_, _<_, min}
 use native.Mathlib.Omega.{arith}
-use native.Mathlib.Nat.{one-le-pow, div-lt-iff-lt-mul, mul-le-mul-right, suc-mul, mul-le-mul}
+use native.Mathlib.Nat.{not-suc-le-zero, one-le-pow, div-lt-iff-lt-mul, mul-le-mul-right, suc-mul, mul-le-mul}
 use native.Mathlib.Numerals.{add-one}
 use lib.Dec.{eqb, leb, ltb, lit<}
 use lib.ListN.{length, getD, set, replicate, length-map}
@@ -16,7 +17,8 @@ use Rattle.array.proofs.IndexLaws.{allBelow-more, allBelow-fails, howMany-hit, 
 use Rattle.array.proofs.PlacesLaws.{fill-more, fill-out, fill-in}
 use Rattle.plan.specs.Limits.{mostNodes, mostCells, mostActuators}
 use Rattle.plan.specs.declared.Plan.{Plan}
-use Rattle.plan.specs.Known.{period as periodOf}
+use Rattle.plan.specs.Known.{period as periodOf, taskAt}
+use Rattle.plan.proofs.AcceptedLaws.{Shape}
 use Rattle.node.specs.declared.Memory.{Memory}
 use Rattle.node.specs.Majority.{holders}
 use Rattle.node.specs.Node.{zeroMemory}
@@ -217,3 +219,24 @@ column-at table a n values l e j h = rw e (fill-in (λ j. getD table (mostActuat
 -- the length of an array of structs in a struct
 pub length-mapped : {A B : Type 0} (f : A → B) (l : List A) {n : ℕ} → length (map f l) ≡ n → length l ≡ n
 length-mapped f l e = sym (length-map l f) ∙ e
+
+-- ---- the tasks, which stand by frame
+
+-- none of the first n tasks is of frame g
+abbrev pub Skips : Plan → ℕ → ℕ → Type 0
+Skips p g n = (i : ℕ) → i < n → taskAt p i .frame ≡ g → ⊥
+
+pub skips-none : (p : Plan) (g : ℕ) → Skips p g 0
+skips-none p g i l = absurd (not-suc-le-zero l)
+
+-- what was skipped for one node is skipped for the next one in the same frame
+pub skips-again : (p : Plan) {last skipped g r : ℕ} → (r ≡ 0) ⊎ ((g ≡ last) × (r ≡ skipped)) → Skips p last skipped → Skips p g r
+skips-again p {last} {skipped} {g} {r} h s = ⊎-elim (λ z. rw z (skips-none p g)) (λ z. rw (z .0, z .1) s) h
+
+pub skips-few : {last skipped g r n : ℕ} → (r ≡ 0) ⊎ ((g ≡ last) × (r ≡ skipped)) → skipped ≤ n → r ≤ n
+skips-few h l = ⊎-elim (λ z. omega arith) (λ z. omega (arith, z .1)) h
+
+module _ (p : Plan) (s : Shape p) {g k : ℕ} (l : k < p .«task_count») where
+  -- the tasks before one of an earlier frame
+  pub skips-earlier : taskAt p k .frame ≤ g → (taskAt p k .frame ≡ g → ⊥) → Skips p g k
+  skips-earlier h f i m e = f (omega (arith, s .ordered i k (omega arith) l))

@@ -2,9 +2,7 @@
 ghost use mathlib.Core.Path.{_≡_};
 ghost use mathlib.Core.Bool.{true};
 ghost use Prim.Native.Nat.{_≤_, _^_};
-ghost use lib.Dec.{leb, ltb};
-ghost use lib.ListN.{getD};
-ghost use Rattle.array.specs.Index.{allBelow};
+ghost use lib.Dec.{ltb};
 ghost use Rattle.plan.specs.Limits.{mostNodes};
 ghost use Rattle.plan.specs.Accepted.{accepted};
 ghost use Rattle.system.specs.Frame.{lengthsOk, frameAnswer, framePlace, singleAnswer, singlePlaceAfter, workingAnswer, agreeingAnswer};
@@ -18,32 +16,12 @@ use system::System;
 
 pub mod step;
 
-// 9: the mask, and the good counts of the plan's nodes.
+// 9: the mask.
 fn mask_ok(nodes: usize, mask: u64) -> bool
     requires { ⌜ nodes ≤ mostNodes ⌝ }
     ensures { λ r. ⌜ r ≡ ltb mask (2 ^ nodes) ⌝ }
 {
     mask >> nodes == 0
-}
-
-fn above(count: u16, period: usize) -> bool
-    ensures { λ r. ⌜ r ≡ ltb period count ⌝ }
-{
-    period < count as usize
-}
-
-fn counts_ok(good: &[u16; System::NODES], nodes: usize, period: usize) -> bool
-    requires { ⌜ nodes ≤ mostNodes ⌝ }
-    ensures { λ r. ⌜ r ≡ allBelow (λ i. leb (getD (now (good .entry)) i 0) period) nodes ⌝ }
-{
-    let mut i: usize = 0;
-    while i < nodes {
-        if above(good[i], period) {
-            return false;
-        }
-        i += 1;
-    }
-    true
 }
 
 // 8: sensors, fault bytes, place.
@@ -77,7 +55,7 @@ pub fn frame(
         };
     }
     let nodes = plan.nodes;
-    if !(mask_ok(nodes, mask) & counts_ok(&system.good, nodes, period)) {
+    if !(mask_ok(nodes, mask) & step::counts_ok(&system.good, nodes, period)) {
         return Framed {
             answer: Answer::MaskOrCount,
             system,
@@ -132,7 +110,7 @@ pub fn working(plan: Plan, system: System, mask: u64) -> Counted
         };
     }
     let nodes = plan.nodes;
-    if !(mask_ok(nodes, mask) & counts_ok(&system.good, nodes, period)) {
+    if !(mask_ok(nodes, mask) & step::counts_ok(&system.good, nodes, period)) {
         return Counted {
             answer: Answer::MaskOrCount,
             count: 0,
@@ -156,7 +134,7 @@ pub fn agreeing(plan: Plan, system: System, memory: Memory) -> Counted
         };
     }
     let nodes = plan.nodes;
-    if !counts_ok(&system.good, nodes, period) {
+    if !step::counts_ok(&system.good, nodes, period) {
         return Counted {
             answer: Answer::MaskOrCount,
             count: 0,

@@ -1,22 +1,26 @@
 // The steps of a whole system, for callers that know the plan to be accepted, its period, the mask and the lengths to be right.
 ghost use mathlib.Core.Path.{_≡_};
-ghost use mathlib.Core.Bool.{true, cond, _&&_};
+ghost use mathlib.Core.Bool.{true, false, cond, _&&_};
+ghost use mathlib.Core.Option.{some};
+ghost use mathlib.Core.Logic.{_⊎_};
 ghost use Prim.Native.Nat.{ℕ, _+_, _*_, _<_, _≤_, min};
-ghost use lib.Dec.{eqb};
+ghost use lib.Dec.{eqb, leb, ltb};
 ghost use lib.ListN.{length, getD, replicate};
 ghost use Rattle.array.specs.Index.{howMany, allBelow, fill, joined, from};
 ghost use Rattle.array.specs.Word.{be};
 ghost use Rattle.array.specs.Bit.{bit};
-ghost use Rattle.plan.specs.Limits.{mostNodes, mostCells, mostActuators};
+ghost use Rattle.plan.specs.Limits.{mostNodes, mostFrames, mostCells, mostActuators};
 ghost use Rattle.plan.specs.Known.{period as periodOf};
 ghost use Rattle.plan.specs.Accepted.{accepted};
-ghost use Rattle.node.specs.Size.{counterSize, patternSize, cellAt, mailboxSize};
-ghost use Rattle.node.specs.Node.{zeroMemory, computed, messageOf, voted, setpoint};
-ghost use Rattle.system.specs.Fault.{faultsSize, faultMemory, faultSetpoint};
+ghost use Rattle.node.specs.Size.{counterSize, patternSize, cellAt};
+ghost use Rattle.node.specs.Node.{zeroMemory, computed, messageOf, setpoint};
+ghost use Rattle.node.specs.Answers.{valueOf};
+ghost use Rattle.system.specs.Fault.{faultsSize, faultAt, faultMemory, faultSetpoint};
 ghost use Rattle.system.specs.Plane.{plane as planeOf};
 ghost use Rattle.system.specs.Frame.{memoryOf, systemAfter, placeAfter, isWorking, sameMemory};
-ghost use Rattle.frame.specs.Mail.{placed, patched};
+ghost use Rattle.frame.specs.Mail.{Small, Counts, allFaults, placed, patched, after, goodHolders, settled};
 use node::Memory;
+use node::Voted;
 use plan::Plan;
 use system::System;
 
@@ -32,6 +36,27 @@ pub fn fault_size(nodes: usize, cells: usize, actuators: usize) -> usize
     size + nodes * size + 8 * actuators
 }
 
+fn above(count: u16, period: usize) -> bool
+    ensures { λ r. ⌜ r ≡ ltb period count ⌝ }
+{
+    period < count as usize
+}
+
+// 9: the good counts of the plan's nodes.
+pub fn counts_ok(good: &[u16; System::NODES], nodes: usize, period: usize) -> bool
+    requires { ⌜ nodes ≤ mostNodes ⌝ }
+    ensures { λ r. ⌜ r ≡ allBelow (λ i. leb (getD (now (good .entry)) i 0) period) nodes ⌝ }
+{
+    let mut i: usize = 0;
+    while i < nodes {
+        if above(good[i], period) {
+            return false;
+        }
+        i += 1;
+    }
+    true
+}
+
 // Bit i of the mask.
 fn is_bad(mask: u64, i: usize) -> bool
     requires { ⌜ i < mostNodes ⌝ }
@@ -40,7 +65,14 @@ fn is_bad(mask: u64, i: usize) -> bool
     (mask >> i) % 2 == 1
 }
 
-// Every node after its tasks.
+// Where the tasks of frame g may begin: after `skipped`, which are not of frame `last`, where that is g.
+fn begin(last: usize, skipped: usize, g: usize) -> usize
+    ensures { λ r. ⌜ (r ≡ 0) ⊎ ((g ≡ last) × (r ≡ skipped)) ⌝ }
+{
+    if g == last { skipped } else { 0 }
+}
+
+// Every node after its tasks. They stand by frame, so a node in the frame of the one before it begins where that one did.
 fn compute_all(
     plan: Plan,
     memories: [Memory; System::NODES],
@@ -50,30 +82,57 @@ fn compute_all(
     ensures { λ r. ⌜ r ≡ fill (λ j. computed plan (now (sensors .entry)) (getD memories j zeroMemory)) (plan .nodes) memories ⌝ }
 {
     let nodes = plan.nodes;
+    let frames = plan.frames;
+    let count = plan.task_count;
     let mut all = memories;
+    let mut last: usize = 0;
+    let mut skipped: usize = 0;
     let mut j: usize = 0;
     while j < nodes {
         let m = all[j];
-        let next = node::step::compute(plan, m, sensors);
-        all[j] = next;
+        let g = m.counter as usize % frames;
+        let mut cells = m.cells;
+        skipped = begin(last, skipped, g);
+        last = g;
+        let mut k = skipped;
+        while k < count {
+            let frame = plan.tasks[k].frame;
+            if g < frame {
+                break;
+            }
+            if frame == g {
+                let t = plan.tasks[k];
+                node::step::run_task(&mut cells, t, sensors);
+            } else {
+                skipped = k;
+            }
+            k += 1;
+        }
+        let counter = ((g + 1) % frames) as u16;
+        all[j] = Memory { counter, cells };
         j += 1;
     }
     all
 }
 
-// The messages of all nodes, one after another.
-fn write_messages(plan: Plan, memories: [Memory; System::NODES], bins: &mut [u8])
-    requires { ⌜ (accepted plan ≡ true) × (length (now bins) ≡ mailboxSize plan) ⌝ }
-    ensures { λ _. ⌜ now (bins .exit) ≡ joined (λ j. messageOf plan (getD memories j zeroMemory)) (plan .nodes) ⌝ }
+// The messages of all nodes, one after another. What is lent of a plan is its votes and numbers; each contract speaks for every plan that has them.
+fn write_messages(
+    voted: &[bool; Plan::VOTES],
+    nodes: usize,
+    frames: usize,
+    cells: usize,
+    memories: [Memory; System::NODES],
+    bins: &mut [u8],
+)
+    requires { ⌜ (nodes ≤ mostNodes) × (0 < frames) × (frames ≤ mostFrames) × (cells ≤ mostCells) × (length (now bins) ≡ nodes * cellAt cells) ⌝ }
+    ensures { λ _. ⌜ ((p : Plan) → p .voted ≡ now (voted .entry) → p .frames ≡ frames → p .cells ≡ cells → now (bins .exit) ≡ joined (λ j. messageOf p (getD memories j zeroMemory)) nodes) ⌝ }
 {
-    let nodes = plan.nodes;
-    let cells = plan.cells;
     let size = node::step::message_size(cells);
     let mut j: usize = 0;
     while j < nodes {
         let m = memories[j];
         let at = j * size;
-        node::step::message(plan, m, &mut bins[at..at + size]);
+        node::step::message_with(voted, frames, cells, m, &mut bins[at..at + size]);
         j += 1;
     }
 }
@@ -96,13 +155,18 @@ fn copy_bin(source: &[u8], at: usize, bins: &mut [u8], to: usize, cells: usize)
 }
 
 // The bins as receiver i hears them: those of bad senders are taken from the fault bytes.
-fn patch(plan: Plan, faults: &[u8], mask: u64, i: usize, bins: &mut [u8])
-    requires { ⌜ (accepted plan ≡ true) × (length (now faults) ≡ faultsSize plan) × (i < plan .nodes) × (length (now bins) ≡ mailboxSize plan) ⌝ }
-    ensures { λ _. ⌜ now (bins .exit) ≡ joined (patched plan (now (faults .entry)) mask i (now (bins .entry))) (plan .nodes) ⌝ }
+fn patch(
+    nodes: usize,
+    cells: usize,
+    actuators: usize,
+    faults: &[u8],
+    mask: u64,
+    i: usize,
+    bins: &mut [u8],
+)
+    requires { ⌜ Small nodes cells actuators × (length (now faults) ≡ allFaults nodes cells actuators) × (i < nodes) × (length (now bins) ≡ nodes * cellAt cells) ⌝ }
+    ensures { λ _. ⌜ ((p : Plan) → Counts p nodes cells actuators → now (bins .exit) ≡ joined (patched p (now (faults .entry)) mask i (now (bins .entry))) (p .nodes)) ⌝ }
 {
-    let nodes = plan.nodes;
-    let cells = plan.cells;
-    let actuators = plan.actuators;
     let size = node::step::message_size(cells);
     let block = fault_size(nodes, cells, actuators);
     let mut j: usize = 0;
@@ -134,49 +198,283 @@ fn fault_memory(cells: usize, faults: &[u8], at: usize, old: Memory) -> Memory
 
 // Node i after the frame.
 fn memory_after(
-    plan: Plan,
+    voted: &[bool; Plan::VOTES],
+    nodes: usize,
+    frames: usize,
+    cells: usize,
+    actuators: usize,
     faults: &[u8],
     mask: u64,
     i: usize,
-    old: Memory,
     own: Memory,
     bins: &mut [u8],
 ) -> Memory
-    requires { ⌜ (accepted plan ≡ true) × (length (now faults) ≡ faultsSize plan) × (i < plan .nodes) × (length (now bins) ≡ mailboxSize plan) ⌝ }
-    ensures { λ r. ⌜ (r ≡ cond (bit mask i) (faultMemory plan (now (faults .entry)) i old) (voted plan own (joined (patched plan (now (faults .entry)) mask i (now (bins .entry))) (plan .nodes)))) × (now (bins .exit) ≡ cond (bit mask i) (now (bins .entry)) (joined (patched plan (now (faults .entry)) mask i (now (bins .entry))) (plan .nodes))) ⌝ }
+    requires { ⌜ Small nodes cells actuators × (0 < frames) × (frames ≤ mostFrames) × (length (now faults) ≡ allFaults nodes cells actuators) × (i < nodes) × (length (now bins) ≡ nodes * cellAt cells) ⌝ }
+    ensures { λ r. ⌜ ((p : Plan) → Counts p nodes cells actuators → p .frames ≡ frames → p .voted ≡ now (voted .entry) → (r ≡ after p (now (faults .entry)) mask (now (bins .entry)) i own) × (now (bins .exit) ≡ cond (bit mask i) (now (bins .entry)) (joined (patched p (now (faults .entry)) mask i (now (bins .entry))) (p .nodes)))) ⌝ }
 {
-    let nodes = plan.nodes;
-    let cells = plan.cells;
-    let actuators = plan.actuators;
     if is_bad(mask, i) {
-        return fault_memory(cells, faults, i * fault_size(nodes, cells, actuators), old);
+        return fault_memory(cells, faults, i * fault_size(nodes, cells, actuators), own);
     }
-    patch(plan, faults, mask, i, bins);
-    node::step::vote(plan, own, bins)
+    patch(nodes, cells, actuators, faults, mask, i, bins);
+    node::step::vote_with(voted, nodes, frames, cells, own, bins)
 }
 
-fn vote_all(
-    plan: Plan,
+// Every node votes by itself.
+fn vote_each(
+    voted: &[bool; Plan::VOTES],
+    nodes: usize,
+    frames: usize,
+    cells: usize,
+    actuators: usize,
     faults: &[u8],
     mask: u64,
-    old: [Memory; System::NODES],
     own: [Memory; System::NODES],
     bins: &mut [u8],
 ) -> [Memory; System::NODES]
-    requires { ⌜ (accepted plan ≡ true) × (length (now faults) ≡ faultsSize plan) × (length (now bins) ≡ mailboxSize plan) ⌝ }
-    ensures { λ r. ⌜ r ≡ fill (λ i. cond (bit mask i) (faultMemory plan (now (faults .entry)) i (getD old i zeroMemory)) (voted plan (getD own i zeroMemory) (joined (patched plan (now (faults .entry)) mask i (now (bins .entry))) (plan .nodes)))) (plan .nodes) old ⌝ }
+    requires { ⌜ Small nodes cells actuators × (0 < frames) × (frames ≤ mostFrames) × (length (now faults) ≡ allFaults nodes cells actuators) × (length (now bins) ≡ nodes * cellAt cells) ⌝ }
+    ensures { λ r. ⌜ ((p : Plan) → Counts p nodes cells actuators → p .frames ≡ frames → p .voted ≡ now (voted .entry) → r ≡ fill (λ i. after p (now (faults .entry)) mask (now (bins .entry)) i (getD own i zeroMemory)) (p .nodes) own) ⌝ }
 {
-    let nodes = plan.nodes;
-    let mut all = old;
+    let mut all = own;
     let mut i: usize = 0;
     while i < nodes {
-        let before = all[i];
-        let m = own[i];
-        let next = memory_after(plan, faults, mask, i, before, m, bins);
+        let m = all[i];
+        let next = memory_after(
+            voted,
+            nodes,
+            frames,
+            cells,
+            actuators,
+            faults,
+            mask,
+            i,
+            m,
+            bins,
+        );
         all[i] = next;
         i += 1;
     }
     all
+}
+
+// What more than half of the nodes sent as good ones of the counter, and of the cell that stands at `at`: every receiver hears that.
+fn good_counter(bins: &[u8], nodes: usize, size: usize, mask: u64) -> Voted
+    requires { ⌜ (nodes ≤ mostNodes) × (nodes * size ≤ length (now bins)) × (counterSize ≤ size) × (size < 4096) ⌝ }
+    ensures { λ r. ⌜ ((x : ℕ) → valueOf r ≡ some x → nodes < 2 * goodHolders mask (λ j. be counterSize (now (bins .entry)) (j * size)) nodes x) ⌝ }
+{
+    let mut values = [0u64; System::NODES];
+    let mut k: usize = 0;
+    let mut j: usize = 0;
+    while j < nodes {
+        if !is_bad(mask, j) {
+            values[k] = array::step::read2(bins, j * size) as u64;
+            k += 1;
+        }
+        j += 1;
+    }
+    node::step::majority(&values, k, nodes)
+}
+
+fn good_cell(bins: &[u8], nodes: usize, size: usize, at: usize, mask: u64) -> Voted
+    requires { ⌜ (nodes ≤ mostNodes) × (nodes * size ≤ length (now bins)) × (at + patternSize ≤ size) × (size < 4096) ⌝ }
+    ensures { λ r. ⌜ ((x : ℕ) → valueOf r ≡ some x → nodes < 2 * goodHolders mask (λ j. be patternSize (now (bins .entry)) (j * size + at)) nodes x) ⌝ }
+{
+    let mut values = [0u64; System::NODES];
+    let mut k: usize = 0;
+    let mut j: usize = 0;
+    while j < nodes {
+        if !is_bad(mask, j) {
+            values[k] = array::step::read8(bins, j * size + at);
+            k += 1;
+        }
+        j += 1;
+    }
+    node::step::majority(&values, k, nodes)
+}
+
+// The counter below `frames` that more than half sent as good ones, or else `frames`.
+fn agreed_counter(bins: &[u8], nodes: usize, size: usize, mask: u64, frames: usize) -> usize
+    requires { ⌜ (nodes ≤ mostNodes) × (nodes * size ≤ length (now bins)) × (counterSize ≤ size) × (size < 4096) × (frames ≤ mostFrames) ⌝ }
+    ensures { λ r. ⌜ (r < frames → nodes < 2 * goodHolders mask (λ j. be counterSize (now (bins .entry)) (j * size)) nodes r) ⌝ }
+{
+    let Voted::Value(x) = good_counter(bins, nodes, size, mask) else {
+        return frames;
+    };
+    if x < frames as u64 {
+        return x as usize;
+    }
+    frames
+}
+
+// Whether each cell voted in a frame has a value that more than half sent as good ones; `value` then has them.
+fn decide(
+    voted: &[bool; Plan::VOTES],
+    nodes: usize,
+    cells: usize,
+    frame: usize,
+    mask: u64,
+    bins: &[u8],
+    value: &mut [u64; Plan::CELLS],
+) -> bool
+    requires { ⌜ (nodes ≤ mostNodes) × (cells ≤ mostCells) × (frame < mostFrames) × (length (now bins) ≡ nodes * cellAt cells) × (length (now value) ≡ mostCells) ⌝ }
+    ensures { λ r. ⌜ (r ≡ true → (c : ℕ) → c < cells → getD (now (voted .entry)) (mostCells * frame + c) false ≡ true → nodes < 2 * goodHolders mask (λ j. be patternSize (now (bins .entry)) (j * cellAt cells + cellAt c)) nodes (getD (now (value .exit)) c 0)) ⌝ }
+{
+    let size = node::step::message_size(cells);
+    let mut c: usize = 0;
+    while c < cells {
+        if voted[Plan::CELLS * frame + c] {
+            let Voted::Value(x) = good_cell(bins, nodes, size, 2 + 8 * c, mask) else {
+                return false;
+            };
+            value[c] = x;
+        }
+        c += 1;
+    }
+    true
+}
+
+// A good node's memory with what was decided.
+fn settle(
+    voted: &[bool; Plan::VOTES],
+    cells: usize,
+    frame: usize,
+    value: &[u64; Plan::CELLS],
+    counter: u16,
+    own: Memory,
+) -> Memory
+    requires { ⌜ (cells ≤ mostCells) × (frame < mostFrames) ⌝ }
+    ensures { λ r. ⌜ r ≡ settled (now (voted .entry)) frame (now (value .entry)) counter cells own ⌝ }
+{
+    let mut after = own.cells;
+    let mut c: usize = 0;
+    while c < cells {
+        if voted[Plan::CELLS * frame + c] {
+            after[c] = value[c];
+        }
+        c += 1;
+    }
+    Memory {
+        counter,
+        cells: after,
+    }
+}
+
+fn settle_node(
+    voted: &[bool; Plan::VOTES],
+    cells: usize,
+    frame: usize,
+    value: &[u64; Plan::CELLS],
+    counter: u16,
+    own: Memory,
+    bad: bool,
+    faults: &[u8],
+    at: usize,
+) -> Memory
+    requires { ⌜ (cells ≤ mostCells) × (frame < mostFrames) × (at + cellAt cells ≤ length (now faults)) ⌝ }
+    ensures { λ r. ⌜ ((p : Plan) (i : ℕ) → p .cells ≡ cells → at ≡ faultAt p i → r ≡ cond bad (faultMemory p (now (faults .entry)) i own) (settled (now (voted .entry)) frame (now (value .entry)) counter cells own)) ⌝ }
+{
+    if bad {
+        return fault_memory(cells, faults, at, own);
+    }
+    settle(voted, cells, frame, value, counter, own)
+}
+
+// Every node with what was decided, bad ones with what their faults leave.
+fn settle_all(
+    voted: &[bool; Plan::VOTES],
+    nodes: usize,
+    cells: usize,
+    actuators: usize,
+    faults: &[u8],
+    mask: u64,
+    frame: usize,
+    value: &[u64; Plan::CELLS],
+    counter: u16,
+    own: [Memory; System::NODES],
+) -> [Memory; System::NODES]
+    requires { ⌜ Small nodes cells actuators × (frame < mostFrames) × (length (now faults) ≡ allFaults nodes cells actuators) ⌝ }
+    ensures { λ r. ⌜ ((p : Plan) → Counts p nodes cells actuators → r ≡ fill (λ i. cond (bit mask i) (faultMemory p (now (faults .entry)) i (getD own i zeroMemory)) (settled (now (voted .entry)) frame (now (value .entry)) counter cells (getD own i zeroMemory))) nodes own) ⌝ }
+{
+    let block = fault_size(nodes, cells, actuators);
+    let mut all = own;
+    let mut i: usize = 0;
+    while i < nodes {
+        let m = all[i];
+        let bad = is_bad(mask, i);
+        let next = settle_node(
+            voted,
+            cells,
+            frame,
+            value,
+            counter,
+            m,
+            bad,
+            faults,
+            i * block,
+        );
+        all[i] = next;
+        i += 1;
+    }
+    all
+}
+
+// Every node after the frame. What more than half sent as good ones every receiver hears from more than half, so that is decided once.
+fn vote_all(
+    voted: &[bool; Plan::VOTES],
+    nodes: usize,
+    frames: usize,
+    cells: usize,
+    actuators: usize,
+    faults: &[u8],
+    mask: u64,
+    own: [Memory; System::NODES],
+    bins: &mut [u8],
+) -> [Memory; System::NODES]
+    requires { ⌜ Small nodes cells actuators × (0 < frames) × (frames ≤ mostFrames) × (length (now faults) ≡ allFaults nodes cells actuators) × (length (now bins) ≡ nodes * cellAt cells) ⌝ }
+    ensures { λ r. ⌜ ((p : Plan) → Counts p nodes cells actuators → p .frames ≡ frames → p .voted ≡ now (voted .entry) → r ≡ fill (λ i. after p (now (faults .entry)) mask (now (bins .entry)) i (getD own i zeroMemory)) (p .nodes) own) ⌝ }
+{
+    let size = node::step::message_size(cells);
+    let agreed = agreed_counter(bins, nodes, size, mask, frames);
+    if agreed >= frames {
+        return vote_each(
+            voted,
+            nodes,
+            frames,
+            cells,
+            actuators,
+            faults,
+            mask,
+            own,
+            bins,
+        );
+    }
+    let counter = agreed as u16;
+    let frame = node::step::frame_before(counter, frames);
+    let mut value = [0u64; Plan::CELLS];
+    if !decide(voted, nodes, cells, frame, mask, bins, &mut value) {
+        return vote_each(
+            voted,
+            nodes,
+            frames,
+            cells,
+            actuators,
+            faults,
+            mask,
+            own,
+            bins,
+        );
+    }
+    settle_all(
+        voted,
+        nodes,
+        cells,
+        actuators,
+        faults,
+        mask,
+        frame,
+        &value,
+        counter,
+        own,
+    )
 }
 
 fn counts(
@@ -211,15 +509,22 @@ fn count_after(bad: bool, count: u16, period: usize) -> u16
 }
 
 // What one node puts out.
-fn put_row(plan: Plan, m: Memory, bad: bool, faults: &[u8], at: usize, row: &mut [u64])
-    requires { ⌜ (accepted plan ≡ true) × (length (now row) ≡ plan .actuators) × (at + patternSize * plan .actuators ≤ length (now faults)) ⌝ }
-    ensures { λ _. ⌜ now (row .exit) ≡ fill (λ a. cond bad (be patternSize (now (faults .entry)) (at + patternSize * a)) (setpoint plan m a)) (plan .actuators) (now (row .entry)) ⌝ }
+fn put_row(
+    table: &[usize; Plan::ACTUATORS],
+    m: Memory,
+    bad: bool,
+    faults: &[u8],
+    at: usize,
+    row: &mut [u64],
+)
+    requires { ⌜ (length (now row) ≤ mostActuators) × ((a : ℕ) → a < length (now row) → getD (now table) a 0 < mostCells) × (at + patternSize * length (now row) ≤ length (now faults)) ⌝ }
+    ensures { λ _. ⌜ ((p : Plan) → p .«actuator_cell» ≡ now (table .entry) → now (row .exit) ≡ fill (λ a. cond bad (be patternSize (now (faults .entry)) (at + patternSize * a)) (setpoint p m a)) (length (now (row .entry))) (now (row .entry))) ⌝ }
 {
     if !bad {
-        node::step::setpoints(plan, m, row);
+        node::step::setpoints_with(table, &m.cells, row);
         return;
     }
-    let actuators = plan.actuators;
+    let actuators = row.len();
     let mut a: usize = 0;
     while a < actuators {
         row[a] = array::step::read8(faults, at + 8 * a);
@@ -228,13 +533,18 @@ fn put_row(plan: Plan, m: Memory, bad: bool, faults: &[u8], at: usize, row: &mut
 }
 
 // What all nodes put out: entry 8 * node + actuator.
-fn put_table(plan: Plan, memories: [Memory; System::NODES], mask: u64, faults: &[u8]) -> [u64; 56]
-    requires { ⌜ (accepted plan ≡ true) × (length (now faults) ≡ faultsSize plan) ⌝ }
-    ensures { λ r. ⌜ ((j a : ℕ) → j < plan .nodes → a < plan .actuators → getD r (mostActuators * j + a) 0 ≡ cond (bit mask j) (faultSetpoint plan (now (faults .entry)) j a) (setpoint plan (getD memories j zeroMemory) a)) ⌝ }
+fn put_table(
+    cell: &[usize; Plan::ACTUATORS],
+    nodes: usize,
+    cells: usize,
+    actuators: usize,
+    memories: [Memory; System::NODES],
+    mask: u64,
+    faults: &[u8],
+) -> [u64; 56]
+    requires { ⌜ Small nodes cells actuators × ((a : ℕ) → a < actuators → getD (now cell) a 0 < mostCells) × (length (now faults) ≡ allFaults nodes cells actuators) ⌝ }
+    ensures { λ r. ⌜ ((p : Plan) → Counts p nodes cells actuators → p .«actuator_cell» ≡ now (cell .entry) → (j a : ℕ) → j < nodes → a < actuators → getD r (mostActuators * j + a) 0 ≡ cond (bit mask j) (faultSetpoint p (now (faults .entry)) j a) (setpoint p (getD memories j zeroMemory) a)) ⌝ }
 {
-    let nodes = plan.nodes;
-    let cells = plan.cells;
-    let actuators = plan.actuators;
     let size = node::step::message_size(cells);
     let block = fault_size(nodes, cells, actuators);
     let mut table = [0u64; 56];
@@ -244,7 +554,7 @@ fn put_table(plan: Plan, memories: [Memory; System::NODES], mask: u64, faults: &
         let bad = is_bad(mask, j);
         let at = 8 * j;
         put_row(
-            plan,
+            cell,
             m,
             bad,
             faults,
@@ -256,8 +566,8 @@ fn put_table(plan: Plan, memories: [Memory; System::NODES], mask: u64, faults: &
     table
 }
 
-// The value that most of the n put out; of tied ones that of the lowest holder.
-fn plane(values: &[u64; System::NODES], n: usize) -> u64
+// The value that most of the n put out; of tied ones that of the lowest holder. By counting the holders of each:
+fn most_held(values: &[u64; System::NODES], n: usize) -> u64
     requires { ⌜ (0 < n) × (n ≤ mostNodes) ⌝ }
     ensures { λ r. ⌜ r ≡ planeOf (λ j. getD (now (values .entry)) j 0) n ⌝ }
 {
@@ -273,6 +583,17 @@ fn plane(values: &[u64; System::NODES], n: usize) -> u64
         k += 1;
     }
     values[best]
+}
+
+// and where more than half put out one value, by that.
+fn plane(values: &[u64; System::NODES], n: usize) -> u64
+    requires { ⌜ (0 < n) × (n ≤ mostNodes) ⌝ }
+    ensures { λ r. ⌜ r ≡ planeOf (λ j. getD (now (values .entry)) j 0) n ⌝ }
+{
+    let Voted::Value(x) = node::step::majority(values, n, n) else {
+        return most_held(values, n);
+    };
+    x
 }
 
 // What the nodes put out for one actuator.
@@ -315,14 +636,34 @@ pub fn frame(
     ensures { λ r. ⌜ (r ≡ systemAfter plan system (now (sensors .entry)) mask (now (faults .entry))) × (now (place .exit) ≡ placeAfter plan system (now (sensors .entry)) mask (now (faults .entry)) (now (place .entry))) ⌝ }
 {
     let nodes = plan.nodes;
+    let frames = plan.frames;
+    let cells = plan.cells;
+    let actuators = plan.actuators;
     let old = system.memories;
     let own = compute_all(plan, old, sensors);
-    let cells = plan.cells;
     let end = nodes * node::step::message_size(cells);
     let mut bins = [0u8; MAILBOX];
-    write_messages(plan, own, &mut bins[0..end]);
-    let memories = vote_all(plan, faults, mask, old, own, &mut bins[0..end]);
-    let table = put_table(plan, memories, mask, faults);
+    write_messages(&plan.voted, nodes, frames, cells, own, &mut bins[0..end]);
+    let memories = vote_all(
+        &plan.voted,
+        nodes,
+        frames,
+        cells,
+        actuators,
+        faults,
+        mask,
+        own,
+        &mut bins[0..end],
+    );
+    let table = put_table(
+        &plan.actuator_cell,
+        nodes,
+        cells,
+        actuators,
+        memories,
+        mask,
+        faults,
+    );
     hand_on(&table, nodes, place);
     let before = system.good;
     let good = counts(before, nodes, mask, period);

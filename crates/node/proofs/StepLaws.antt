@@ -1,15 +1,17 @@
 -- Laws for the proofs of `step`: one law for a loop's start, and one for each way through its body.
 use mathlib.Core.Path.{_≡_, refl, sym, _∙_, subst}
-use mathlib.Core.Bool.{true, false, cond}
-use mathlib.Core.List.{List, _++_, append-assoc, append-nil}
+use mathlib.Core.Bool.{Bool, true, false, cond}
+use mathlib.Core.List.{List, [], _++_, append-assoc, append-nil}
 use mathlib.Core.Option.{Option, Option·getD}
-use Prim.Native.Nat.{ℕ, suc, _+_, _-_, _*_, _%_, _≤_, _<_}
+use Prim.Native.Nat.{ℕ, zero, suc, _+_, _-_, _*_, _%_, _≤_, _<_}
 use native.Mathlib.Omega.{arith}
 use native.Mathlib.Nat.{mul-le-mul-right, suc-mul}
 use native.Mathlib.Numerals.{add-one}
+use lib.Dec.{eqb}
 use lib.ListN.{length, getD, set, take, drop, replicate, length-append}
 use lib.Seq.{take-at, take-all, length-take-le}
-use borrow.Author.Tests.{eq-eqb, ne-eqb}
+use borrow.Author.Tests.{eqb-true, eqb-false, eq-eqb, ne-eqb}
+use Rattle.array.proofs.TestLaws.{split}
 use Rattle.array.specs.Index.{fill, joined}
 use Rattle.array.specs.Word.{be, bytes}
 use Rattle.array.proofs.PlacesLaws.{fill-out, fill-more, fill-kept, joined-none, joined-more}
@@ -17,12 +19,14 @@ use Rattle.array.proofs.WordLaws.{bytes-length}
 use Rattle.plan.specs.declared.Plan.{Plan}
 use Rattle.plan.specs.Limits.{mostNodes, mostCells}
 use Rattle.plan.specs.Known.{taskAt, votedIn}
+use Rattle.plan.proofs.AcceptedLaws.{Shape}
 use Rattle.node.specs.declared.Memory.{Memory}
 use Rattle.node.specs.Size.{counterSize, patternSize, cellAt, mailboxSize}
 use Rattle.node.specs.Task.{opValue, runTask, runTasks}
 use Rattle.node.specs.Majority.{majority}
-use Rattle.node.specs.Node.{before, sentCell, counterIn, cellIn, orOwn, votedCounter, votedCell, voted}
+use Rattle.node.specs.Node.{computed, before, sentCell, messageOf, counterIn, cellIn, orOwn, votedCounter, votedCell, voted, setpoint}
 use Rattle.node.proofs.ScanLaws.{majority-read}
+use Rattle.node.proofs.TaskLaws.{runTask-elsewhere}
 
 -- ---- a loop that stores at each place
 
@@ -56,6 +60,37 @@ module _ (p : Plan) (g : ℕ) (sensors cells : List ℕ) where
       now ≡ runTasks p g sensors (k + 1) cells
   unfolding runTasks runTask
   tasks-miss k e h = rw (add-one k, ne-eqb (taskAt p k .frame) g e) h
+
+  -- tasks from k on that are not of the frame change nothing
+  pub tasks-others : (k n : ℕ) → k ≤ n → ((i : ℕ) → k ≤ i → i < n → taskAt p i .frame ≡ g → ⊥) → runTasks p g sensors k cells ≡ runTasks p g sensors n cells
+  unfolding runTasks
+  tasks-others k zero l f = let z : k ≡ 0 = omega arith in rw z
+  tasks-others k (suc n) l f =
+      split (eqb k (suc n))
+      (λ t. rw (eqb-true k (suc n) t))
+      (λ t.
+      tasks-others k n (omega (arith, eqb-false k (suc n) t)) (λ i a b. f i a (omega arith))
+      ∙ sym (runTask-elsewhere g sensors (taskAt p n) (runTasks p g sensors n cells) (f n (omega (arith, eqb-false k (suc n) t)) (omega arith))))
+
+  pub tasks-end : {now : List ℕ} {k : ℕ} → now ≡ runTasks p g sensors k cells → k ≡ p .«task_count» → now ≡ runTasks p g sensors (p .«task_count») cells
+  tasks-end h e = h ∙ rw e
+
+  -- the tasks stand by frame: where one is of a later frame, all of the frame have run
+  pub tasks-later :
+      {now : List ℕ} {k : ℕ} →
+      Shape p →
+      now ≡ runTasks p g sensors k cells →
+      k < p .«task_count» →
+      g < taskAt p k .frame →
+      now ≡ runTasks p g sensors (p .«task_count») cells
+  tasks-later {now} {k} s h l f = h ∙ tasks-others k (p .«task_count») (omega arith) (λ i m n e. absurd (omega (arith, s .ordered k i m n)))
+
+pub computed-is :
+    (p : Plan) (sensors : List ℕ) (m : Memory) {cells : List ℕ} →
+    cells ≡ runTasks p (m .counter % p .frames) sensors (p .«task_count») (m .cells) →
+    _≡_ {A = Memory} (record { counter = (m .counter % p .frames + 1) % p .frames; cells = cells }) (computed p sensors m)
+unfolding computed
+computed-is p sensors m e = λ i. record { counter = (m .counter % p .frames + 1) % p .frames; cells = e i }
 
 -- ---- a message
 
@@ -162,3 +197,38 @@ unfolding voted before cellAfter votedCell
 memory-voted p m box {counter} {g} {cells} e h k =
     let same : cells ≡ fill (votedCell p m box (before p (votedCounter p m box))) (p .cells) (m .cells) = k ∙ rw (h, e) in
     λ i. record { counter = e i; cells = same i }
+
+-- ---- what is lent of a plan says what the plan says
+
+-- a plan with the numbers and tables that a step is lent; the rest is empty
+abbrev pub lent : (nodes frames cells actuators : ℕ) (voted : List Bool) (table : List ℕ) → Plan
+lent nodes frames cells actuators voted table =
+    record {
+      nodes = nodes;
+      frames = frames;
+      cells = cells;
+      sensors = 0;
+      actuators = actuators;
+      initial = [];
+      «task_count» = 0;
+      tasks = [];
+      voted = voted;
+      «actuator_cell» = table;
+    }
+
+module _ (p : Plan) (m : Memory) {votes : List Bool} {frames cells : ℕ} (v : p .voted ≡ votes) (f : p .frames ≡ frames) (c : p .cells ≡ cells) where
+  pub message-lent : messageOf (lent 0 frames cells 0 votes []) m ≡ messageOf p m
+  unfolding messageOf sentCell before votedIn
+  message-lent = rw (← v, ← f, ← c)
+
+  pub voted-lent : {nodes : ℕ} (box : List ℕ) → p .nodes ≡ nodes → voted (lent nodes frames cells 0 votes []) m box ≡ voted p m box
+  unfolding voted votedCounter votedCell counterIn cellIn before votedIn
+  voted-lent box n = rw (← v, ← f, ← c, ← n)
+
+pub setpoint-lent :
+    (p : Plan) (m : Memory) {table cells : List ℕ} →
+    p .«actuator_cell» ≡ table →
+    m .cells ≡ cells →
+    (n : ℕ) (out : List ℕ) → fill (λ i. getD cells (getD table i 0) 0) n out ≡ fill (setpoint p m) n out
+unfolding setpoint
+setpoint-lent p m t c n out = rw (← t, ← c)

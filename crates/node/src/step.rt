@@ -6,12 +6,12 @@ ghost use Prim.Native.Nat.{ℕ, _+_, _-_, _*_, _%_, _<_, _≤_};
 ghost use lib.ListN.{length, getD, set, replicate};
 ghost use Rattle.array.specs.Index.{fill};
 ghost use Rattle.array.specs.Word.{be};
-ghost use Rattle.plan.specs.Limits.{mostNodes, mostCells};
+ghost use Rattle.plan.specs.Limits.{mostNodes, mostFrames, mostCells, mostActuators};
 ghost use Rattle.plan.specs.Accepted.{accepted};
 ghost use Rattle.node.specs.Size.{counterSize, patternSize, cellAt, messageSize, mailboxSize};
 ghost use Rattle.node.specs.Task.{opValue};
 ghost use Rattle.node.specs.Majority.{holders as holdersOf, majority as majorityOf};
-ghost use Rattle.node.specs.Node.{poweredOn, computed, messageOf, orOwn, voted, setpoint};
+ghost use Rattle.node.specs.Node.{poweredOn, computed, messageOf, orOwn, voted as votedOf, setpoint};
 ghost use Rattle.node.specs.Answers.{valueOf};
 use super::Memory;
 use super::Voted;
@@ -49,7 +49,7 @@ fn op_value(op: Op, target: usize, sensors: &[u64], cells: &[u64]) -> u64
     }
 }
 
-fn run_task(cells: &mut [u64; Plan::CELLS], t: Task, sensors: &[u64])
+pub fn run_task(cells: &mut [u64; Plan::CELLS], t: Task, sensors: &[u64])
     requires { ⌜ t .target < mostCells ⌝ }
     ensures { λ _. ⌜ now (cells .exit) ≡ set (now (cells .entry)) (t .target) (opValue (t .op) (t .target) (now (sensors .entry)) (now (cells .entry))) ⌝ }
 {
@@ -59,6 +59,7 @@ fn run_task(cells: &mut [u64; Plan::CELLS], t: Task, sensors: &[u64])
     cells[target] = v;
 }
 
+// The tasks stand by frame, so the first of a later one ends the scan.
 pub fn compute(plan: Plan, memory: Memory, sensors: &[u64]) -> Memory
     requires { ⌜ (accepted plan ≡ true) × (length (now sensors) ≡ plan .sensors) ⌝ }
     ensures { λ r. ⌜ r ≡ computed plan (now (sensors .entry)) memory ⌝ }
@@ -71,6 +72,9 @@ pub fn compute(plan: Plan, memory: Memory, sensors: &[u64]) -> Memory
     let mut k: usize = 0;
     while k < count {
         let frame = plan.tasks[k].frame;
+        if g < frame {
+            break;
+        }
         if frame == g {
             let t = plan.tasks[k];
             run_task(&mut cells, t, sensors);
@@ -92,7 +96,7 @@ pub fn message_size(cells: usize) -> usize
 }
 
 // The frame before a counter.
-fn frame_before(counter: u16, frames: usize) -> usize
+pub fn frame_before(counter: u16, frames: usize) -> usize
     requires { ⌜ (0 < frames) × (frames ≤ 16) ⌝ }
     ensures { λ r. ⌜ (r ≡ (counter + frames - 1) % frames) × (r < frames) ⌝ }
 {
@@ -105,21 +109,33 @@ fn sent(voted: bool, cell: u64) -> u64
     if voted { cell } else { 0 }
 }
 
-pub fn message(plan: Plan, memory: Memory, out: &mut [u8])
-    requires { ⌜ (accepted plan ≡ true) × (length (now out) ≡ messageSize plan) ⌝ }
-    ensures { λ _. ⌜ now (out .exit) ≡ messageOf plan memory ⌝ }
+// A message of what is lent of a plan: its contract speaks for every plan that has these votes and numbers.
+pub fn message_with(
+    voted: &[bool; Plan::VOTES],
+    frames: usize,
+    cells: usize,
+    memory: Memory,
+    out: &mut [u8],
+)
+    requires { ⌜ (0 < frames) × (frames ≤ mostFrames) × (cells ≤ mostCells) × (length (now out) ≡ cellAt cells) ⌝ }
+    ensures { λ _. ⌜ ((p : Plan) → p .voted ≡ now (voted .entry) → p .frames ≡ frames → p .cells ≡ cells → now (out .exit) ≡ messageOf p memory) ⌝ }
 {
-    let cells = plan.cells;
-    let frames = plan.frames;
     let counter = memory.counter;
     let g = frame_before(counter, frames);
     array::step::write2(out, 0, counter);
     let mut c: usize = 0;
     while c < cells {
-        let x = sent(plan.voted[Plan::CELLS * g + c], memory.cells[c]);
+        let x = sent(voted[Plan::CELLS * g + c], memory.cells[c]);
         array::step::write8(out, 2 + 8 * c, x);
         c += 1;
     }
+}
+
+pub fn message(plan: Plan, memory: Memory, out: &mut [u8])
+    requires { ⌜ (accepted plan ≡ true) × (length (now out) ≡ messageSize plan) ⌝ }
+    ensures { λ _. ⌜ now (out .exit) ≡ messageOf plan memory ⌝ }
+{
+    message_with(&plan.voted, plan.frames, plan.cells, memory, out);
 }
 
 // How many of the first k values are x.
@@ -213,38 +229,69 @@ fn or_old(v: Voted, old: u64) -> u64
     }
 }
 
-pub fn vote(plan: Plan, memory: Memory, mailbox: &[u8]) -> Memory
-    requires { ⌜ (accepted plan ≡ true) × (length (now mailbox) ≡ mailboxSize plan) ⌝ }
-    ensures { λ r. ⌜ r ≡ voted plan memory (now (mailbox .entry)) ⌝ }
+// A vote by what is lent of a plan.
+pub fn vote_with(
+    voted: &[bool; Plan::VOTES],
+    nodes: usize,
+    frames: usize,
+    count: usize,
+    memory: Memory,
+    mailbox: &[u8],
+) -> Memory
+    requires { ⌜ (nodes ≤ mostNodes) × (0 < frames) × (frames ≤ mostFrames) × (count ≤ mostCells) × (length (now mailbox) ≡ nodes * cellAt count) ⌝ }
+    ensures { λ r. ⌜ ((p : Plan) → p .voted ≡ now (voted .entry) → p .nodes ≡ nodes → p .frames ≡ frames → p .cells ≡ count → r ≡ votedOf p memory (now (mailbox .entry))) ⌝ }
 {
-    let n = plan.nodes;
-    let frames = plan.frames;
-    let count = plan.cells;
     let size = message_size(count);
-    let bins = counters(mailbox, n, size);
-    let counter = or_own(frames, memory.counter, majority(&bins, n, n));
+    let bins = counters(mailbox, nodes, size);
+    let counter = or_own(frames, memory.counter, majority(&bins, nodes, nodes));
     let frame = frame_before(counter, frames);
     let mut cells = memory.cells;
     let mut c: usize = 0;
     while c < count {
-        if plan.voted[Plan::CELLS * frame + c] {
-            let values = cells_at(mailbox, n, size, 2 + 8 * c);
-            cells[c] = or_old(majority(&values, n, n), cells[c]);
+        if voted[Plan::CELLS * frame + c] {
+            let values = cells_at(mailbox, nodes, size, 2 + 8 * c);
+            cells[c] = or_old(majority(&values, nodes, nodes), cells[c]);
         }
         c += 1;
     }
     Memory { counter, cells }
 }
 
+pub fn vote(plan: Plan, memory: Memory, mailbox: &[u8]) -> Memory
+    requires { ⌜ (accepted plan ≡ true) × (length (now mailbox) ≡ mailboxSize plan) ⌝ }
+    ensures { λ r. ⌜ r ≡ votedOf plan memory (now (mailbox .entry)) ⌝ }
+{
+    vote_with(
+        &plan.voted,
+        plan.nodes,
+        plan.frames,
+        plan.cells,
+        memory,
+        mailbox,
+    )
+}
+
+// The setpoints of a memory's cells, by the cells of the actuators.
+pub fn setpoints_with<'a>(
+    table: &'a [usize; Plan::ACTUATORS],
+    cells: &'a [u64; Plan::CELLS],
+    out: &mut [u64],
+)
+    requires { ⌜ (length (now out) ≤ mostActuators) × ((i : ℕ) → i < length (now out) → getD (now table) i 0 < mostCells) ⌝ }
+    ensures { λ _. ⌜ ((p : Plan) (m : Memory) → p .«actuator_cell» ≡ now (table .entry) → m .cells ≡ now (cells .entry) → now (out .exit) ≡ fill (setpoint p m) (length (now (out .entry))) (now (out .entry))) ⌝ }
+{
+    let count = out.len();
+    let mut i: usize = 0;
+    while i < count {
+        let cell = table[i];
+        out[i] = cells[cell];
+        i += 1;
+    }
+}
+
 pub fn setpoints(plan: Plan, memory: Memory, out: &mut [u64])
     requires { ⌜ (accepted plan ≡ true) × (length (now out) ≡ plan .actuators) ⌝ }
     ensures { λ _. ⌜ now (out .exit) ≡ fill (setpoint plan memory) (plan .actuators) (now (out .entry)) ⌝ }
 {
-    let count = plan.actuators;
-    let mut i: usize = 0;
-    while i < count {
-        let cell = plan.actuator_cell[i];
-        out[i] = memory.cells[cell];
-        i += 1;
-    }
+    setpoints_with(&plan.actuator_cell, &memory.cells, out);
 }

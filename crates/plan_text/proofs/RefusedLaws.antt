@@ -1,5 +1,5 @@
 -- The refusals of a text by cases, and what is known of a line that is not refused.
-use mathlib.Core.Path.{_≡_, refl, sym, ap, _∙_}
+use mathlib.Core.Path.{_≡_, refl, sym, ap, subst, _∙_}
 use mathlib.Core.Bool.{Bool, true, false, cond}
 use mathlib.Core.List.{List}
 use mathlib.Core.Option.{Option, none, some}
@@ -13,6 +13,7 @@ use borrow.Author.Tests.{ltb-true, leb-true, eqb-true, eqb-false, eq-eqb, ne-eqb
 use Rattle.array.proofs.TestLaws.{split, and-left, and-right}
 use Rattle.answer.specs.declared.Answer.{Answer}
 use Rattle.answer.specs.declared.Answer.the-variants.{TextLength, Malformed, Header, OutOfOrder, OutOfRange, Unrecoverable}
+use Rattle.answer.specs.Refusal.{numberOf}
 use Rattle.plan.specs.Limits.{mostFrames, mostCells, mostActuators}
 use Rattle.plan.specs.Known.{period}
 use Rattle.plan.specs.Accepted.{headerOk}
@@ -270,3 +271,47 @@ module _ (s : List ℕ) where
       split (eqb (period (planOf s)) 0)
       (λ t. no-answer (ap (λ (b : Bool). cond b (some Unrecoverable) none) (sym t) ∙ orElse-right (linesRefusal s) (periodRefusal s) (text-rest e)))
       (λ t. t)
+
+-- ---- a refusal has a number of its own: it is not the answer that is none
+
+abbrev Numbered : Option Answer → Type 0
+Numbered none = Unit {0}
+Numbered (some a) = numberOf a ≡ 0 → ⊥
+
+numbered-or : (a b : Option Answer) → Numbered a → Numbered b → Numbered (orElse a b)
+numbered-or none b x y = y
+numbered-or (some c) b x y = x
+
+numbered-test : (t : Bool) (a b : Option Answer) → Numbered a → Numbered b → Numbered (cond t a b)
+numbered-test true a b x y = x
+numbered-test false a b x y = y
+
+numbered-rules : (h : List ℕ) (i : ℕ) (prev l : List ℕ) → Numbered (rulesOf h i prev l)
+unfolding rulesOf
+numbered-rules h zero prev l = numbered-test (isHeader l) none (some Header) tt (λ e. omega arith)
+numbered-rules h (suc j) prev l =
+    numbered-test (inOrder h j prev l) (cond (inRange h l) none (some (OutOfRange (suc j + 1)))) (some (OutOfOrder (suc j + 1)))
+    (numbered-test (inRange h l) none (some (OutOfRange (suc j + 1))) tt (λ e. omega arith)) (λ e. omega arith)
+
+numbered-form : (h : List ℕ) (i : ℕ) (prev : List ℕ) (o : Option (List ℕ)) → Numbered (formOrRules h i prev o)
+unfolding formOrRules
+numbered-form h i prev none = λ e. omega arith
+numbered-form h i prev (some l) = numbered-rules h i prev l
+
+numbered-first : (s : List ℕ) (i : ℕ) → Numbered (firstRefusal s i)
+unfolding firstRefusal lineRefusal
+numbered-first s zero = tt
+numbered-first s (suc i) = numbered-or (firstRefusal s i) (lineRefusal s i) (numbered-first s i) (numbered-form (lineAt s 0) i (lineAt s (i - 1)) (numbersAt s i))
+
+numbered-text : (s : List ℕ) → Numbered (textRefusal s)
+unfolding textRefusal linesRefusal endRefusal periodRefusal
+numbered-text s =
+    numbered-test (lengthOk (length s)) (orElse (linesRefusal s) (periodRefusal s)) (some TextLength)
+    (numbered-or (linesRefusal s) (periodRefusal s)
+    (numbered-or (firstRefusal s (lineCount s)) (endRefusal s) (numbered-first s (lineCount s))
+    (numbered-test (isLast (lineAt s 0) (lineAt s (lineCount s - 1))) none (some (OutOfOrder (lineCount s + 1))) tt (λ e. omega arith)))
+    (numbered-test (eqb (period (planOf s)) 0) (some Unrecoverable) none (λ e. omega arith) tt))
+    (λ e. omega arith)
+
+pub refusal-numbered : (s : List ℕ) (a : Answer) → textRefusal s ≡ some a → numberOf a ≡ 0 → ⊥
+refusal-numbered s a e = subst Numbered e (numbered-text s)

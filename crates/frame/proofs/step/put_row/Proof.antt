@@ -1,5 +1,5 @@
 -- `frame::step::put_row` meets its contract: the first a setpoints of a bad node are read.
-use mathlib.Core.Path.{_≡_, sym}
+use mathlib.Core.Path.{_≡_, refl, sym}
 use Prim.Native.Nat.{_+_, _*_, _-_, _≤_}
 use native.Mathlib.Omega.{arith}
 use lib.ListN.{length}
@@ -8,7 +8,6 @@ use borrow.Author.Needs.{needs}
 use Rattle.array.proofs.PlacesLaws.{fill-none}
 use Rattle.array.specs.Index.{fill}
 use Rattle.array.specs.Word.{be}
-use Rattle.plan.proofs.AcceptedLaws.{shape-of-accepted}
 use Rattle.plan.specs.Limits.{mostActuators}
 use Rattle.node.specs.Size.{patternSize}
 use Rattle.node.specs.Node.{setpoint}
@@ -17,24 +16,25 @@ use Rattle.frame.proofs.step.put_row.Statement.{statement}
 use Rattle.frame.proofs.step.put_row.Tie as tie
 
 abbrev Inv-loop : tie.InvT-loop
-Inv-loop bad faults at row₀ actuators a₀ row a =
+Inv-loop table bad faults at row₀ actuators a₀ row a =
     (a ≤ actuators) × (actuators ≤ mostActuators) × (length row ≡ actuators) × (row ≡ fill (λ b. be patternSize faults (at + patternSize * b)) a row₀)
 
 abbrev μ-loop : tie.MeasureT-loop
-μ-loop bad faults at row₀ actuators a₀ row a = actuators - a
+μ-loop table bad faults at row₀ actuators a₀ row a = actuators - a
 
-setpoints-requires : tie.Need-setpoints-requires Inv-loop μ-loop
-setpoints-requires c κs =
-    let q = c .before .before .before .before .pre in
+setpoints-with-requires : tie.Need-setpoints-with-requires Inv-loop μ-loop
+setpoints-with-requires c κs =
+    let q = c .before .before .before .before .before .before .pre in
     (q .0, q .1)
 
 returns : tie.Need-returns Inv-loop μ-loop
 returns c =
-    let a = c .before .before .before .before .before .before .before .args in
-    row-good (λ b. be patternSize (a .faults .now) (a .at + patternSize * b)) (setpoint (a .plan) (a .m)) (a .plan .actuators) (a .row .now) (a .bad) (not-true (a .bad) (c .before .before .before .before .if1 .taken)) (c .before .before .setpoints .ensures)
+    let a = c .before .before .before .before .before .before .before .before .before .args in
+    λ p t.
+    row-good (λ b. be patternSize (a .faults .now) (a .at + patternSize * b)) (setpoint p (a .t2)) (length (a .row .now)) (a .row .now) (a .bad) (not-true (a .bad) (c .before .before .before .before .before .before .if1 .taken)) (c .before .before .setpoints-with .ensures p (a .t2) t refl)
 
 loop-holds : tie.Need-loop-holds Inv-loop μ-loop
-loop-holds c = (search needs, shape-of-accepted _ (c .before .before .before .pre .0) .actuators-le, search needs, sym (fill-none _ _))
+loop-holds c = (search needs, c .before .before .before .pre .0, search needs, sym (fill-none _ _))
 
 loop-again : tie.Need-loop-again Inv-loop μ-loop
 loop-again c = (search needs, search needs, search needs, stored-next _ _ _ (c .before .before .loop .inv .3) (c .read8 .ensures))
@@ -42,7 +42,8 @@ loop-again c = (search needs, search needs, search needs, stored-next _ _ _ (c .
 returns-2 : tie.Need-returns-2 Inv-loop μ-loop
 returns-2 c =
     let a = c .before .before .before .before .before .args in
-    row-bad (λ b. be patternSize (a .faults .now) (a .at + patternSize * b)) (setpoint (a .plan) (a .m)) (a .plan .actuators) (a .row .now) (a .bad) (not-false (a .bad) (c .before .before .if1 .left)) (c .before .loop .inv .3) (omega arith)
+    λ p t.
+    row-bad (λ b. be patternSize (a .faults .now) (a .at + patternSize * b)) (setpoint p (a .t2)) (length (a .row .now)) (a .row .now) (a .bad) (not-false (a .bad) (c .before .before .if1 .left)) (c .before .loop .inv .3) (omega arith)
 
 pub put-row-spec : {M : Type 1} → statement M
 put-row-spec =
@@ -50,7 +51,7 @@ put-row-spec =
     (tie.spec
     Inv-loop
     μ-loop
-    setpoints-requires
+    setpoints-with-requires
     (λ c. search needs)
     returns
     loop-holds

@@ -1,17 +1,14 @@
 -- `node::step::compute` meets its contract: the loop has run the tasks of the frame among the first k.
-use mathlib.Core.Path.{_≡_, ap, _∙_}
+use mathlib.Core.Path.{_≡_, _∙_}
 use mathlib.Core.Logic.{⊎-elim}
-use mathlib.Core.List.{List}
-use Prim.Native.Nat.{ℕ, _+_, _-_, _%_, _≤_}
+use Prim.Native.Nat.{_+_, _-_, _%_, _≤_}
 use native.Mathlib.Omega.{arith}
 use native.Mathlib.Nat.{mod-lt}
 use borrow.Author.Needs.{needs}
 use Rattle.plan.specs.Limits.{mostTasks}
 use Rattle.plan.proofs.AcceptedLaws.{shape-of-accepted}
-use Rattle.node.specs.declared.Memory.{Memory}
 use Rattle.node.specs.Task.{runTasks}
-use Rattle.node.specs.Node.{computed}
-use Rattle.node.proofs.StepLaws.{tasks-none, tasks-hit, tasks-miss}
+use Rattle.node.proofs.StepLaws.{tasks-none, tasks-hit, tasks-miss, tasks-later, tasks-end, computed-is}
 use Rattle.node.proofs.step.compute.Statement.{statement}
 use Rattle.node.proofs.step.compute.Tie as tie
 
@@ -30,16 +27,16 @@ loop-holds c = (search needs, shape-of-accepted _ (c .before .before .before .pr
 
 run-task-requires : tie.Need-run-task-requires Inv-loop μ-loop
 run-task-requires c κs =
-    let s = shape-of-accepted (c .before .before .before .before .before .before .before .before .args .t1) (c .before .before .before .before .before .before .before .before .pre .0) in
-    omega (arith, s .target (c .before .before .before .before .loop .k) (c .before .before .before .loop-test .taken), s .cells-le)
+    let s = shape-of-accepted (c .before .before .before .before .before .before .before .before .before .args .t1) (c .before .before .before .before .before .before .before .before .before .pre .0) in
+    omega (arith, s .target (c .before .before .before .before .before .loop .k) (c .before .before .before .before .loop-test .taken), s .cells-le)
 
 loop-again : tie.Need-loop-again Inv-loop μ-loop
 loop-again c =
-    let l = c .before .before .loop in
+    let l = c .before .before .before .loop in
     ⊎-elim
     (λ w. (search needs, search needs, tasks-hit _ _ _ _ (l .k) (w .0 .taken) (l .inv .2) (w .4 ∙ w .3 .ensures)))
     (λ w. (search needs, search needs, w .1 ∙ tasks-miss _ _ _ _ (l .k) (w .0 .left) (l .inv .2)))
-    (c .if1 .came)
+    (c .if2 .came)
 
 add-next : tie.Need-add-next Inv-loop μ-loop
 add-next c =
@@ -58,14 +55,11 @@ cast-next c =
     omega (arith, s .frames-le, mod-lt (a .memory .counter % a .t1 .frames + 1) (s .frames-pos))
 
 returns : tie.Need-returns Inv-loop μ-loop
-unfolding computed
 returns c =
-    let a = c .before .before .before .before .before .args in
-    let p = a .t1 in
-    let g = a .memory .counter % p .frames in
-    let e : c .before .loop .k ≡ p .«task_count» = omega arith in
-    ap {B = Memory} (λ (l : List ℕ). record { counter = (g + 1) % p .frames; cells = l })
-    (c .before .loop .inv .2 ∙ ap (λ (k : ℕ). runTasks p g (a .sensors .now) k (a .memory .cells)) e)
+    let l = c .before .loop in
+    let p = c .before .before .before .before .before .args .t1 in
+    computed-is p (c .before .before .before .before .before .args .sensors .now) (c .before .before .before .before .before .args .memory)
+    (⊎-elim (λ w. tasks-end p _ _ _ (l .inv .2) (omega (arith, w .left, l .inv .0))) (λ w. tasks-later p _ _ _ (shape-of-accepted p (c .before .before .before .before .before .pre .0)) (l .inv .2) (w .0 .taken) (w .1 .taken)) (c .loop-test .came))
 
 pub compute-spec : {M : Type 1} → statement M
 compute-spec =

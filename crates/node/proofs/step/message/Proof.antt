@@ -1,87 +1,20 @@
--- `node::step::message` meets its contract: the loop has written the counter and the first c cells.
-use mathlib.Core.Path.{_≡_, sym, _∙_}
-use mathlib.Core.List.{_++_}
-use Prim.Native.Nat.{_-_, _≤_, _<_}
-use native.Mathlib.Omega.{arith}
-use lib.ListN.{length, take}
-use borrow.Author.Needs.{needs}
-use Rattle.array.specs.Index.{joined}
-use Rattle.array.specs.Word.{bytes}
-use Rattle.plan.specs.Limits.{mostFrames, mostCells}
+-- `node::step::message` meets its contract: what it lends is the plan's.
+use mathlib.Core.Path.{refl}
 use Rattle.plan.proofs.AcceptedLaws.{shape-of-accepted}
-use Rattle.node.specs.Size.{counterSize, patternSize, cellAt}
-use Rattle.node.specs.Node.{sentCell, messageOf}
-use Rattle.node.proofs.StepLaws.{sent-none, sent-more, sent-all, sent-cell}
+use borrow.Author.Needs.{needs}
 use Rattle.node.proofs.step.message.Statement.{statement}
 use Rattle.node.proofs.step.message.Tie as tie
 
-abbrev Inv-loop : tie.InvT-loop
-Inv-loop out₀ plan memory cells frames counter g c₀ out c =
-    (c ≤ cells) × (cells ≤ mostCells) × (g < mostFrames) × (length out ≡ cellAt cells)
-    × (take (cellAt c) out ≡ bytes counterSize counter ++ joined (λ d. bytes patternSize (sentCell plan memory d)) c)
+message-with-requires : tie.Need-message-with-requires
+message-with-requires c κs =
+    let s = shape-of-accepted _ (c .before .before .before .before .pre .0) in
+    (s .frames-pos, s .frames-le, s .cells-le, c .before .before .before .before .pre .1)
 
-abbrev μ-loop : tie.MeasureT-loop
-μ-loop out₀ plan memory cells frames counter g c₀ out c = cells - c
+same-length : tie.Need-same-length
+same-length c = search needs
 
-frame-before-requires : tie.Need-frame-before-requires Inv-loop μ-loop
-frame-before-requires c κs =
-    let s = shape-of-accepted _ (c .before .pre .0) in
-    (s .frames-pos, s .frames-le)
-
-loop-holds : tie.Need-loop-holds Inv-loop μ-loop
-loop-holds c =
-    let a = c .before .before .before .before .before .before .args in
-    let s = shape-of-accepted (a .t1) (c .before .before .before .before .before .before .pre .0) in
-    let w = c .before .before .write2 in (
-      search needs,
-      s .cells-le,
-      omega (arith, s .frames-le, c .before .before .before .before .frame-before .ensures .1),
-      omega (arith, w .kept .0, c .before .before .before .before .before .before .pre .1),
-      sent-none (a .out .now) (w .last .0) (sentCell (a .t1) (a .t2)) (a .t2 .counter) (omega (arith, c .before .before .before .before .before .before .pre .1)) (w .ensures),
-    )
-
-loop-again : tie.Need-loop-again Inv-loop μ-loop
-loop-again c =
-    let l = c .before .before .before .before .before .before .before .before .loop in
-    let w = c .before .before .write8 in
-    let m = c .before .before .before .before .before .before .before .before .before .before .before .before .before .before .before .args .t2 in
-    let x = sent-cell (c .before .before .before .before .before .before .before .before .before .before .before .before .before .before .before .args .t1) m (l .c) (c .before .before .before .before .before .before .before .before .before .before .before .before .before .frame-before .ensures .0) (c .before .before .before .before .sent .ensures) in (
-      search needs,
-      l .inv .1,
-      l .inv .2,
-      omega (arith, w .kept .0, l .inv .3),
-      sent-more (l .out) (w .last .0) (sentCell _ m) (m .counter) (l .c) _ (omega (arith, l .inv .3, c .before .before .before .before .before .before .before .loop-test .taken)) (l .inv .4) x (w .ensures),
-    )
-
-same-length : tie.Need-same-length Inv-loop μ-loop
-same-length c = c .before .loop .inv .3 ∙ sym (c .before .before .before .before .before .before .before .before .pre .1)
-
-returns : tie.Need-returns Inv-loop μ-loop
-unfolding messageOf
-returns c =
-    let l = c .before .loop in
-    sent-all (sentCell (c .before .before .before .before .before .before .before .before .args .t1) (c .before .before .before .before .before .before .before .before .args .t2)) _ (l .c) _ (l .out) (omega arith) (l .inv .3) (l .inv .4)
+returns : tie.Need-returns
+returns c = c .before .before .message-with .ensures (c .before .before .before .before .before .before .before .args .t1) refl refl refl
 
 pub message-spec : {M : Type 1} → statement M
-message-spec =
-    tie.close
-    (tie.spec
-    Inv-loop
-    μ-loop
-    frame-before-requires
-    (λ c κs. search needs)
-    loop-holds
-    (λ c. search needs)
-    (λ c. search needs)
-    (λ c. search needs)
-    (λ c. search needs)
-    (λ c. search needs)
-    (λ c κs. search needs)
-    (λ c. search needs)
-    (λ c. search needs)
-    (λ c κs. search needs)
-    (λ c. search needs)
-    (λ c. search needs)
-    loop-again
-    same-length
-    returns)
+message-spec = tie.close (tie.spec message-with-requires same-length returns)

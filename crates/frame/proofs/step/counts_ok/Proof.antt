@@ -1,4 +1,4 @@
--- `frame::counts_ok` meets its contract: the first i counts are not above the period.
+-- `frame::step::counts_ok` meets its contract: the first i counts are not above the period.
 use mathlib.Core.Path.{_≡_, sym}
 use mathlib.Core.Bool.{true}
 use Prim.Native.Nat.{_-_, _≤_}
@@ -9,8 +9,8 @@ use borrow.Author.Needs.{needs}
 use Rattle.array.proofs.IndexLaws.{allBelow-none}
 use Rattle.array.specs.Index.{allBelow}
 use Rattle.frame.proofs.StepLaws.{counts-more, counts-fail, all-passed}
-use Rattle.frame.proofs.counts_ok.Statement.{statement}
-use Rattle.frame.proofs.counts_ok.Tie as tie
+use Rattle.frame.proofs.step.counts_ok.Statement.{statement}
+use Rattle.frame.proofs.step.counts_ok.Tie as tie
 
 abbrev Inv-loop : tie.InvT-loop
 Inv-loop good nodes period i₀ i =

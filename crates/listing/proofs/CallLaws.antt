@@ -1,0 +1,260 @@
+-- What the calls on a run answer, one law for each way out.
+use mathlib.Core.Path.{_≡_, refl, sym, ap, _∙_}
+use mathlib.Core.Bool.{Bool, true, false, not, cond, _&&_, _||_}
+use mathlib.Core.List.{List, [], _∷_, _++_, append-nil}
+use mathlib.Core.Option.{Option, none, some, Option·getD}
+use Prim.Native.Nat.{ℕ, suc, _+_, _-_, _≤_, _<_, min}
+use native.Mathlib.Omega.{arith}
+use native.Mathlib.Nat.{min-eq-left, min-eq-right}
+use lib.Dec.{eqb, leb}
+use lib.ListN.{length, take, drop, take-append-drop, drop-of-length-le}
+use lib.Seq.{length-take-le}
+use borrow.Author.Tests.{eqb-true, eq-eqb, ne-eqb, le-leb, lt-leb}
+use borrow.Rule.Slice.PartMut.{putMid}
+use Rattle.array.proofs.TestLaws.{and-false-right}
+use Rattle.answer.specs.declared.Answer.{Answer}
+use Rattle.answer.specs.declared.Answer.the-variants.{Done, InvalidPlan, WrongLength, MaskOrCount, RunLine}
+use Rattle.answer.specs.Refusal.{numberOf}
+use Rattle.plan.specs.declared.Plan.{Plan}
+use Rattle.plan.specs.Known.{period}
+use Rattle.plan.specs.Accepted.{accepted, wellFormed, headerOk, storable}
+use Rattle.plan.specs.Answers.{acceptedPeriod}
+use Rattle.plan_text.specs.declared.PlanRead.{PlanRead}
+use Rattle.plan_text.specs.declared.TextWritten.{TextWritten}
+use Rattle.plan_text.specs.Meant.{zeroPlan, planOf}
+use Rattle.plan_text.specs.Refused.{textRefusal}
+use Rattle.plan_text.specs.Answers.{readAnswer}
+use Rattle.plan_text.specs.Answers as text
+use Rattle.plan_text.specs.Reader.{placed}
+use Rattle.plan_text.proofs.RefusedLaws.{refusal-numbered}
+use Rattle.plan_text.proofs.TextLaws.{read-plan}
+use Rattle.node.specs.declared.Outcome.{Outcome}
+use Rattle.node.specs.Node.{zeroMemory, poweredOn}
+use Rattle.node.specs.Answers as node
+use Rattle.system.specs.declared.Started.{Started as Began}
+use Rattle.system.specs.System.{zeroSystem}
+use Rattle.system.specs.System as power
+use Rattle.system.specs.Frame.{countsOk}
+use Rattle.listing.specs.declared.Run.{Run}
+use Rattle.listing.specs.declared.Started.{Started}
+use Rattle.listing.specs.declared.Printed.{Printed}
+use Rattle.listing.specs.declared.step.Stepped.{Stepped}
+use Rattle.listing.specs.Line.{runLineSize, printedSize, refusalLine, refusalSize}
+use Rattle.listing.specs.Listing.{mostLines, isSome, lineNumbers, frameLine}
+use Rattle.listing.specs.Answers.{zeroRun, startOf, unlessRefused, startAnswer, runAfter, nextNumbers, inTurn, inOrder, lineAnswer, taken, runTaken, nextAnswer, placeTaken, nextPlace, isDone, refusalWritten, refusalPlace}
+use Rattle.listing.specs.Step.{stepAnswer, stepPlace, takenOr, lineTaken}
+use Rattle.listing.proofs.StepLaws.{empty-of-length, nothing-numbers, taken-none, taken-some, line-in-time}
+use Rattle.listing.proofs.WritingLaws.{frame-length}
+
+-- ---- the line of a refusal
+
+pub min-below : (a b : ℕ) → a < b → min a b ≡ a
+min-below a b l = min-eq-left (omega arith)
+
+pub min-above : (a b : ℕ) → b ≤ a → min a b ≡ b
+min-above a b l = min-eq-right l
+
+module _ (a : Answer) (out : List ℕ) where
+  pub refusal-short : length out < refusalSize → (record { answer = WrongLength; count = 0 } ≡ refusalWritten a (length out)) × (out ≡ refusalPlace a out)
+  unfolding refusalWritten refusalPlace
+  refusal-short l = rw (lt-leb refusalSize (length out) l) (refl, refl)
+
+  pub refusal-none : refusalSize ≤ length out → numberOf a ≡ 0 → (record { answer = Done; count = 0 } ≡ refusalWritten a (length out)) × (out ≡ refusalPlace a out)
+  unfolding refusalWritten refusalPlace
+  refusal-none l e = rw (le-leb refusalSize (length out) l, eq-eqb (numberOf a) 0 e) (refl, refl)
+
+  pub refusal-written :
+      {to : List ℕ} →
+      refusalSize ≤ length out →
+      (numberOf a ≡ 0 → ⊥) →
+      length (refusalLine a) ≡ refusalSize →
+      to ≡ placed out 0 (refusalLine a) →
+      (record { answer = Done; count = refusalSize } ≡ refusalWritten a (length out)) × (to ≡ refusalPlace a out)
+  unfolding refusalWritten refusalPlace
+  refusal-written l e k f = rw (le-leb refusalSize (length out) l, ne-eqb (numberOf a) 0 e) (refl, f ∙ rw k)
+
+-- ---- start
+
+zero-refused : accepted zeroPlan ≡ false
+unfolding accepted wellFormed headerOk
+zero-refused = ap (λ (b : Bool). b && not (eqb (period zeroPlan) 0)) (and-false-right (storable zeroPlan) refl)
+
+-- what the calls give of a plan: the run at power-on, or the all-zero one
+module _ (p : Plan) (n : ℕ) (started : Began) (powered : Outcome) (f : n ≡ acceptedPeriod p) (g : started ≡ power.powerOnAnswer p) (h : powered ≡ node.powerOnAnswer p) where
+  abbrev begun : Run
+  begun = record { plan = p; period = n; system = started .system; single = powered .memory; frame = 0 }
+
+  begun-accepted : accepted p ≡ true → begun ≡ startOf p
+  unfolding startOf acceptedPeriod power.powerOnAnswer node.powerOnAnswer
+  begun-accepted a =
+      let x : n ≡ period p = f ∙ rw a in
+      let y : started .system ≡ power.powerOn p = ap (λ (t : Began). t .system) g ∙ rw a in
+      let z : powered .memory ≡ poweredOn p = ap (λ (t : Outcome). t .memory) h ∙ rw a in
+      λ i. record { plan = p; period = x i; system = y i; single = z i; frame = 0 }
+
+  begun-zero : p ≡ zeroPlan → begun ≡ zeroRun
+  unfolding acceptedPeriod power.powerOnAnswer node.powerOnAnswer
+  begun-zero e =
+      let a : accepted p ≡ false = ap accepted e ∙ zero-refused in
+      let x : n ≡ 0 = f ∙ rw a in
+      let y : started .system ≡ zeroSystem = ap (λ (t : Began). t .system) g ∙ rw a in
+      let z : powered .memory ≡ zeroMemory = ap (λ (t : Outcome). t .memory) h ∙ rw a in
+      λ i. record { plan = e i; period = x i; system = y i; single = z i; frame = 0 }
+
+module _ (s : List ℕ) (read : PlanRead) (started : Began) (powered : Outcome) (n : ℕ) where
+  pub start-answer :
+      read ≡ readAnswer s →
+      n ≡ acceptedPeriod (read .plan) →
+      started ≡ power.powerOnAnswer (read .plan) →
+      powered ≡ node.powerOnAnswer (read .plan) →
+      record { answer = read .answer; run = record { plan = read .plan; period = n; system = started .system; single = powered .memory; frame = 0 } } ≡ startAnswer s
+  unfolding startAnswer readAnswer text.unlessRefused unlessRefused
+  start-answer e f g h = go (textRefusal s) refl
+    where
+      go : (o : Option Answer) → textRefusal s ≡ o → record { answer = read .answer; run = begun (read .plan) n started powered f g h } ≡ startAnswer s
+      go none q =
+          let a : read .answer ≡ Done = ap (λ (t : PlanRead). t .answer) e ∙ rw q in
+          let b : read .plan ≡ planOf s = ap (λ (t : PlanRead). t .plan) e ∙ rw q in
+          let ok : accepted (read .plan) ≡ true = ap accepted b ∙ read-plan s q in
+          let r : begun (read .plan) n started powered f g h ≡ startOf (planOf s) = begun-accepted (read .plan) n started powered f g h ok ∙ ap startOf b in
+          rw q (λ i. record { answer = a i; run = r i })
+      go (some x) q =
+          let a : read .answer ≡ x = ap (λ (t : PlanRead). t .answer) e ∙ rw q in
+          let b : read .plan ≡ zeroPlan = ap (λ (t : PlanRead). t .plan) e ∙ rw q in
+          let r : begun (read .plan) n started powered f g h ≡ zeroRun = begun-zero (read .plan) n started powered f g h b in
+          rw q (λ i. record { answer = a i; run = r i })
+
+-- a start that is not refused has an accepted plan
+pub start-accepted :
+    (s : List ℕ) (x : Started) →
+    x ≡ startAnswer s →
+    numberOf (x .answer) ≡ 0 →
+    (accepted (x .run .plan) ≡ true) × (x .run .period ≡ period (x .run .plan)) × (x .run .frame ≤ mostLines)
+unfolding startAnswer unlessRefused startOf
+start-accepted s x e n = rw e (go (textRefusal s) refl (ap (λ (y : Started). numberOf (y .answer)) (sym e) ∙ n))
+  where
+    go :
+        (o : Option Answer) →
+        textRefusal s ≡ o →
+        numberOf (Option·getD (textRefusal s) Done) ≡ 0 →
+        (accepted (unlessRefused (textRefusal s) (startOf (planOf s)) .plan) ≡ true) × (unlessRefused (textRefusal s) (startOf (planOf s)) .period ≡ period (unlessRefused (textRefusal s) (startOf (planOf s)) .plan)) × (unlessRefused (textRefusal s) (startOf (planOf s)) .frame ≤ mostLines)
+    go none q = rw q (λ m. (read-plan s q, refl, omega arith))
+    go (some a) q = rw q (λ m. absurd (refusal-numbered s a q m))
+
+-- ---- the next line
+
+pub nothing-next : (r : Run) → nextNumbers r [] ≡ none
+unfolding nextNumbers
+nothing-next r = nothing-numbers (r .plan) (r .frame)
+
+module _ (r : Run) (rest : List ℕ) (out : List ℕ) (x : Printed) where
+  -- a call that is refused, or finds nothing left
+  abbrev Still : Answer → Type 0
+  Still a = (x .answer ≡ a) × (x .count ≡ 0) × (x .run ≡ r)
+
+  abbrev Answered : List ℕ → Type 0
+  Answered to = (x ≡ nextAnswer r rest (length out)) × (to ≡ nextPlace r rest out)
+
+  still-is : (a : Answer) → Still a → taken r rest (length out) ≡ none → inTurn r (length out) (lineAnswer r rest) ≡ a → Answered out
+  unfolding nextAnswer nextPlace runTaken placeTaken
+  still-is a h t e = rw (t, e) ((λ i. record { answer = h .0 i; count = h .1 i; run = h .2 i }), refl)
+
+  pub next-plan : accepted (r .plan) ≡ false → Still InvalidPlan → Answered out
+  unfolding taken inOrder inTurn
+  next-plan a h = still-is InvalidPlan h (rw a) (rw a)
+
+  module _ (a : accepted (r .plan) ≡ true) where
+    pub next-counts : countsOk (r .plan) (r .system) ≡ false → Still MaskOrCount → Answered out
+    unfolding taken inOrder inTurn
+    next-counts b h = still-is MaskOrCount h (rw (a, b)) (rw (a, b))
+
+    module _ (b : countsOk (r .plan) (r .system) ≡ true) where
+      pub next-room : length out < printedSize (r .plan .actuators) → Still WrongLength → Answered out
+      unfolding taken inOrder inTurn
+      next-room l h =
+          let c : leb (printedSize (r .plan .actuators)) (length out) ≡ false = lt-leb (printedSize (r .plan .actuators)) (length out) l in
+          still-is WrongLength h (rw (a, b, c)) (rw (a, b, c))
+
+      module _ (l : printedSize (r .plan .actuators) ≤ length out) where
+        c : leb (printedSize (r .plan .actuators)) (length out) ≡ true
+        c = le-leb (printedSize (r .plan .actuators)) (length out) l
+
+        pub next-ended : length rest ≡ 0 → Still Done → Answered out
+        unfolding taken inOrder inTurn lineAnswer
+        next-ended e h =
+            let n : rest ≡ [] = empty-of-length rest e in
+            still-is Done h (rw (a, b, c) (ap (nextNumbers r) n ∙ nothing-next r)) (rw (a, b, c, eq-eqb (length rest) 0 e))
+
+        -- a line that is refused or run, its place lent
+        pub next-taken :
+            {to : List ℕ} {m : ℕ} →
+            m ≡ printedSize (r .plan .actuators) →
+            (length rest ≡ 0 → ⊥) →
+            x ≡ lineTaken r rest →
+            to ≡ placeTaken r (nextNumbers r rest) (take (m - 0) out) →
+            Answered (putMid 0 (m - 0) out to)
+        unfolding lineTaken takenOr nextAnswer nextPlace taken inOrder inTurn lineAnswer runTaken placeTaken
+        next-taken {to} {m} v e f g = go (nextNumbers r rest) refl
+          where
+            n : m - 0 ≡ printedSize (r .plan .actuators)
+            n = omega (arith, v)
+
+            ne : eqb (length rest) 0 ≡ false
+            ne = ne-eqb (length rest) 0 e
+
+            go : (o : Option (List ℕ)) → nextNumbers r rest ≡ o → Answered (putMid 0 (m - 0) out to)
+            go none q =
+                let u : to ≡ take (printedSize (r .plan .actuators)) out = g ∙ rw (q, n) in
+                (f ∙ rw (a, b, c, q, ne), rw (a, b, c, q, n, u) (take-append-drop (printedSize (r .plan .actuators)) out))
+            go (some k) q =
+                let line : List ℕ = frameLine (r .plan) (r .system) (r .single) (r .frame) k in
+                let d : drop (printedSize (r .plan .actuators)) (take (printedSize (r .plan .actuators)) out) ≡ [] =
+                drop-of-length-le (take (printedSize (r .plan .actuators)) out) {i = printedSize (r .plan .actuators)} (omega (arith, length-take-le (printedSize (r .plan .actuators)) out l)) in
+                let u : to ≡ line = g ∙ rw (q, n, d) (append-nil line) in
+                (f ∙ rw (a, b, c, q, ne), rw (a, b, c, q, n, u))
+
+-- ---- the line of a state that is not refused
+
+module _ (r : Run) (rest out line b : List ℕ) (s : Stepped) (size : length out ≡ printedSize (r .plan .actuators)) (q : line ≡ take (runLineSize (r .plan .sensors)) rest) (e : s ≡ stepAnswer (r .plan) (r .system) (r .single) (lineNumbers (r .plan) (r .frame) line)) (g : b ≡ stepPlace (r .plan) (r .system) (r .single) (r .frame) (lineNumbers (r .plan) (r .frame) line) out) where
+  numbers-are : lineNumbers (r .plan) (r .frame) line ≡ nextNumbers r rest
+  unfolding nextNumbers
+  numbers-are = ap (lineNumbers (r .plan) (r .frame)) q
+
+  pub line-refused :
+      (x : Printed) →
+      s .taken ≡ false →
+      (x .answer ≡ RunLine (min (r .frame) mostLines + 1)) × (x .count ≡ 0) × (x .run ≡ r) →
+      (x ≡ lineTaken r rest) × (b ≡ placeTaken r (nextNumbers r rest) out)
+  unfolding lineTaken takenOr placeTaken stepPlace
+  line-refused x t h =
+      let o : lineNumbers (r .plan) (r .frame) line ≡ none = taken-none (r .plan) (r .system) (r .single) s (lineNumbers (r .plan) (r .frame) line) e t in
+      rw (← numbers-are, o) ((λ i. record { answer = h .0 i; count = h .1 i; run = h .2 i }), g ∙ rw o)
+
+  pub line-in-range : s .taken ≡ true → r .frame < mostLines
+  line-in-range t =
+      let k = taken-some (r .plan) (r .system) (r .single) s (lineNumbers (r .plan) (r .frame) line) e t in
+      line-in-time (r .plan) (r .frame) line (k .0) (k .1)
+
+  done-with :
+      (n : ℕ) (l : List ℕ) →
+      lineNumbers (r .plan) (r .frame) line ≡ some l →
+      n ≡ period (r .plan) →
+      (record { answer = Done; count = length b; run = record { plan = r .plan; period = n; system = s .system; single = s .single; frame = r .frame + 1 } } ≡ lineTaken r rest) × (b ≡ placeTaken r (nextNumbers r rest) out)
+  unfolding lineTaken takenOr placeTaken stepPlace stepAnswer runAfter
+  done-with n l o h =
+      let a : s ≡ stepAnswer (r .plan) (r .system) (r .single) (some l) = e ∙ rw o in
+      let u : b ≡ frameLine (r .plan) (r .system) (r .single) (r .frame) l = g ∙ rw o in
+      let m : length b ≡ printedSize (r .plan .actuators) = ap length u ∙ frame-length (r .plan) (r .system) (r .single) (r .frame) l in
+      let d : drop (printedSize (r .plan .actuators)) out ≡ [] = drop-of-length-le out {i = printedSize (r .plan .actuators)} (omega arith) in
+      rw (← numbers-are, o) (
+        (λ i. record { answer = Done; count = m i; run = record { plan = r .plan; period = h i; system = a i .system; single = a i .single; frame = r .frame + 1 } }),
+        u ∙ rw d (sym (append-nil (frameLine (r .plan) (r .system) (r .single) (r .frame) l))),
+      )
+
+  pub line-done :
+      (n : ℕ) →
+      s .taken ≡ true →
+      n ≡ period (r .plan) →
+      (record { answer = Done; count = length b; run = record { plan = r .plan; period = n; system = s .system; single = s .single; frame = r .frame + 1 } } ≡ lineTaken r rest) × (b ≡ placeTaken r (nextNumbers r rest) out)
+  line-done n t h =
+      let k = taken-some (r .plan) (r .system) (r .single) s (lineNumbers (r .plan) (r .frame) line) e t in done-with n (k .0) (k .1) h

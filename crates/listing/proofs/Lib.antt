@@ -1,0 +1,6 @@
+pub mod ReadingLaws
+pub mod WritingLaws
+pub mod StepLaws
+pub mod RunLaws
+pub mod CallLaws
+pub mod FoldedLaws

@@ -1,0 +1,258 @@
+-- What the steps of a run need.
+use mathlib.Core.Path.{_≡_, refl, sym, ap, _∙_}
+use mathlib.Core.Bool.{Bool, true, false, cond, _&&_}
+use mathlib.Core.List.{List, [], _∷_, _++_, append-assoc, append-nil}
+use mathlib.Core.Option.{Option, none, some}
+use Prim.Native.Nat.{ℕ, zero, suc, _+_, _-_, _*_, _^_, _≤_, _<_, min}
+use native.Mathlib.Omega.{arith}
+use native.Mathlib.Numerals.{add-one}
+use native.Mathlib.Nat.{mul-le-mul, min-eq-left, min-eq-right, min-le-right, le-min}
+use lib.Dec.{leb, ltb}
+use lib.ListN.{length, getD, set, take, drop, replicate, length-append, length-replicate, length-drop, drop-of-length-le, replicate-append-replicate}
+use lib.Seq.{set-split, length-take-le, take-nil, take-all, take-at, drop-at, drop-drop}
+use borrow.Author.Tests.{le-ltb, lt-ltb, ltb-true, ltb-false, leb-true, leb-false}
+use borrow.Rule.Slice.PartMut.{putMid}
+use Rattle.array.specs.Index.{howMany, fill}
+use Rattle.array.proofs.TestLaws.{split, clash, and-right}
+use Rattle.array.proofs.PlacesLaws.{fill-length}
+use Rattle.column.specs.Row.{row, numbersOf}
+use Rattle.column.proofs.RowLaws.{total, room-count, room-of-numbers, numbers-length}
+use Rattle.plan.specs.declared.Plan.{Plan}
+use Rattle.plan.specs.Limits.{mostNodes, mostCells, mostActuators}
+use Rattle.node.specs.declared.Memory.{Memory}
+use Rattle.node.specs.Size.{patternSize, cellAt}
+use Rattle.node.specs.Node.{computed}
+use Rattle.system.specs.declared.System.{System}
+use Rattle.system.specs.Fault.{faultsSize}
+use Rattle.system.specs.Plane.{plane}
+use Rattle.system.specs.Frame.{memoryOf, putOut, systemAfter, placeAfter, isWorking, sameMemory}
+use Rattle.listing.specs.declared.step.Stepped.{Stepped}
+use Rattle.listing.specs.declared.step.LineRead.{LineRead}
+use Rattle.listing.specs.declared.step.LineRead.the-variants.{Whole, Refused}
+use Rattle.listing.specs.Line.{patternWidth, runWidths, runLineSize, maskIn, fillIn, sensorsIn, inLimits, runNumbers, printedWidths}
+use Rattle.listing.specs.Listing.{mostLines, lineNumbers, faultBytes, systemNext, planes, working, singleNext, agreeing, frameLine}
+use Rattle.listing.proofs.ReadingLaws.{length-bad}
+use Rattle.listing.proofs.WritingLaws.{total-of-columns}
+use Rattle.listing.specs.Step.{lineRead, mostFaults, stepAnswer, stepPlace, stepFaults}
+
+-- ---- the fault bytes
+
+pub spread-size : (s xs : List ℕ) (i x : ℕ) → xs ≡ replicate i x ++ drop i s → i ≤ length s → length xs ≡ length s
+spread-size s xs i x e l = ap length e ∙ length-append (replicate i x) (drop i s) ∙ rw (length-replicate i x, length-drop i s) (omega arith)
+
+-- the next byte
+pub spread-more :
+    (s xs : List ℕ) (i x : ℕ) → xs ≡ replicate i x ++ drop i s → i < length s → set xs i x ≡ replicate (i + 1) x ++ drop (i + 1) s
+spread-more s xs i x e l =
+    let k : length xs ≡ length s = spread-size s xs i x e (omega arith) in
+    let a : take i xs ≡ replicate i x = ap (take i) e ∙ take-at (replicate i x) (drop i s) i (length-replicate i x) in
+    let b : drop i xs ≡ drop i s = ap (drop i) e ∙ drop-at (replicate i x) (drop i s) i (length-replicate i x) in
+    let d : drop (i + 1) xs ≡ drop (i + 1) s = sym (drop-drop 1 i xs) ∙ ap (drop 1) b ∙ drop-drop 1 i s in
+    set-split xs i x (omega arith)
+    ∙ rw (← add-one i, a, d) (sym (append-assoc (replicate i x) (x ∷ []) (drop (i + 1) s)) ∙ ap (λ (t : List ℕ). t ++ drop (i + 1) s) (replicate-append-replicate i 1 x))
+
+pub spread-all : (s xs : List ℕ) (i x : ℕ) → xs ≡ replicate i x ++ drop i s → i ≡ length s → xs ≡ replicate (length s) x
+spread-all s xs i x e l = e ∙ ap (λ (t : List ℕ). replicate i x ++ t) (drop-of-length-le s {i = i} (omega arith)) ∙ append-nil (replicate i x) ∙ ap (λ (n : ℕ). replicate n x) l
+
+-- the longest
+pub faults-few :
+    (n c a : ℕ) → n ≤ mostNodes → c ≤ mostCells → a ≤ mostActuators → n * (cellAt c + n * cellAt c + patternSize * a) ≤ mostFaults
+faults-few n c a f g h = mul-le-mul f (let k : cellAt c ≤ cellAt mostCells = omega arith in let m : n * cellAt c ≤ mostNodes * cellAt mostCells = mul-le-mul f k in let z : cellAt c + n * cellAt c + patternSize * a ≤ cellAt mostCells + mostNodes * cellAt mostCells + patternSize * mostActuators = omega arith in z)
+
+-- ---- the plane values
+
+pub take-replicate : (n m x : ℕ) → n ≤ m → take n (replicate m x) ≡ replicate n x
+take-replicate zero m x l = refl
+take-replicate (suc n) zero x l = absurd (omega arith)
+take-replicate (suc n) (suc m) x l = ap (λ (t : List ℕ). x ∷ t) (take-replicate n m x (omega arith))
+
+-- a lent front comes back
+pub front-back : (xs ys : List ℕ) (n : ℕ) → length ys ≡ n → take n (putMid 0 (n - 0) xs ys) ≡ ys
+front-back xs ys n e = take-at ys (drop (n - 0) xs) n e
+
+-- ---- the part of a run that is one line
+
+pub part-taken : (l : List ℕ) (at size : ℕ) → at ≤ length l → take (min (at + size) (length l) - at) (drop at l) ≡ take size (drop at l)
+part-taken l at size f =
+    split (leb (at + size) (length l))
+    (λ t.
+    let k : at + size ≤ length l = leb-true (at + size) (length l) t in
+    let n : at + size - at ≡ size = omega arith in
+    rw (min-eq-left k, n))
+    (λ t.
+    let k : length l < at + size = leb-false (at + size) (length l) t in
+    rw (min-eq-right (let z : length l ≤ at + size = omega arith in z), take-all (length l - at) (drop at l) (omega (arith, length-drop at l)), take-all size (drop at l) (omega (arith, length-drop at l))))
+
+pub part-begins : (at size len : ℕ) {end : ℕ} → end ≡ min (at + size) len → at ≤ len → at ≤ end
+part-begins at size len e l = rw e (le-min (let z : at ≤ at + size = omega arith in z) l)
+
+pub part-ends : (at size len : ℕ) {end : ℕ} → end ≡ min (at + size) len → end ≤ len
+part-ends at size len e = rw e (min-le-right (at + size) len)
+
+pub first-line : (l : List ℕ) (size : ℕ) {n : ℕ} → n ≡ min (0 + size) (length l) → take (n - 0) l ≡ take size l
+first-line l size e = rw e (part-taken l 0 size (omega arith))
+
+-- a front that is lent
+pub front-length : (out : List ℕ) {n m : ℕ} → n ≡ m → m ≤ length out → length (take (n - 0) out) ≡ m
+front-length out {n} {m} e l = let z : n - 0 ≡ m = omega (arith, e) in rw z (length-take-le m out l)
+
+-- ---- the fault bytes of a plan, in an array for the longest
+
+pub faults-front : (n : ℕ) → n ≤ mostFaults → (bytes : List ℕ) → length bytes ≡ mostFaults → length (take (n - 0) bytes) ≡ n
+faults-front n l bytes e = let z : n - 0 ≡ n = omega arith in rw z (length-take-le n bytes (omega arith))
+
+-- ---- the frame of a line
+
+module _ (p : Plan) (sys : System) (sensors faults zeros place : List ℕ) (mask : ℕ) where
+  -- the plane values, of a place that was zero
+  pub planes-lent :
+      zeros ≡ replicate mostActuators 0 →
+      p .actuators ≤ mostActuators →
+      place ≡ placeAfter p sys sensors mask faults (take (p .actuators - 0) (drop 0 zeros)) →
+      take (p .actuators) (putMid 0 (p .actuators - 0) zeros place) ≡ placeAfter p sys sensors mask faults (replicate (p .actuators) 0)
+  unfolding placeAfter
+  planes-lent z l e =
+      let n : p .actuators - 0 ≡ p .actuators = omega arith in
+      let t : take (p .actuators - 0) (drop 0 zeros) ≡ replicate (p .actuators) 0 = rw (n, z) (take-replicate (p .actuators) mostActuators 0 l) in
+      let k : length place ≡ p .actuators =
+      ap length e ∙ fill-length (λ a. plane (putOut p sys sensors mask faults a) (p .nodes)) (p .actuators) (take (p .actuators - 0) (drop 0 zeros)) ∙ ap length t ∙ length-replicate (p .actuators) 0 in
+      front-back zeros place (p .actuators) k ∙ e ∙ ap (λ (x : List ℕ). fill (λ a. plane (putOut p sys sensors mask faults a) (p .nodes)) (p .actuators) x) t
+
+-- what the parts of a frame give is its line
+pub frame-printed :
+    (p : Plan) (after : System) (memory : Memory) (frame : ℕ) {w v g : ℕ} {out vs us : List ℕ} →
+    out ≡ row (printedWidths (p .actuators)) (frame ∷ w ∷ g ∷ vs) →
+    w ≡ v →
+    g ≡ howMany (λ i. sameMemory p (memoryOf after i) memory) (p .nodes) →
+    vs ≡ us →
+    out ≡ row (printedWidths (p .actuators)) (frame ∷ v ∷ agreeing p after memory ∷ us)
+unfolding agreeing
+frame-printed p after memory frame e x y z = e ∙ rw (x, y, z)
+
+-- ---- the line's numbers
+
+none-some : {l : List ℕ} → none ≡ some l → ⊥
+none-some e = let z : _≡_ {A = ℕ} 0 1 = cc in omega arith
+
+cond-same : {A : Type 0} (b : Bool) (x : A) → cond b x x ≡ x
+cond-same true x = refl
+cond-same false x = refl
+
+pub line-late : (p : Plan) (frame : ℕ) (line : List ℕ) → mostLines ≤ frame → lineNumbers p frame line ≡ none
+unfolding lineNumbers
+line-late p frame line l = rw (le-ltb frame mostLines l)
+
+pub line-early : (p : Plan) (frame : ℕ) (line : List ℕ) → frame < mostLines → lineNumbers p frame line ≡ runNumbers (p .nodes) (p .sensors) line
+unfolding lineNumbers
+line-early p frame line l = rw (lt-ltb frame mostLines l)
+
+pub empty-of-length : (l : List ℕ) → length l ≡ 0 → l ≡ []
+empty-of-length [] e = refl
+empty-of-length (x ∷ l) e = absurd (omega arith)
+
+-- no bytes are no line
+pub nothing-read : (n s : ℕ) → runNumbers n s [] ≡ none
+nothing-read n s = sym (length-bad n s [] (λ e. omega arith))
+
+pub nothing-numbers : (p : Plan) (frame : ℕ) → lineNumbers p frame (take (runLineSize (p .sensors)) []) ≡ none
+unfolding lineNumbers
+nothing-numbers p frame =
+    rw (take-nil {A = ℕ} (runLineSize (p .sensors)), nothing-read (p .nodes) (p .sensors)) (cond-same (ltb frame mostLines) none)
+
+-- what is known of numbers within the limits
+pub record Within (s : ℕ) (fill : ℕ) (vs : List ℕ) : Type 0 where
+  pub count : length vs ≡ s
+  pub small : fill ≤ 255
+
+limits-of-some : (n : ℕ) (o : Option (List ℕ)) (l : List ℕ) → inLimits n o ≡ some l → (o ≡ some l) × (leb (fillIn l) 255 ≡ true)
+unfolding inLimits
+limits-of-some n none l e = absurd (let z : _≡_ {A = ℕ} 0 1 = cc in omega arith)
+limits-of-some n (some k) l e = go (ltb (maskIn k) (2 ^ n) && leb (fillIn k) 255) refl e
+  where
+    go : (t : Bool) → (ltb (maskIn k) (2 ^ n) && leb (fillIn k) 255) ≡ t → cond {A = Option (List ℕ)} t (some k) none ≡ some l → (some k ≡ some l) × (leb (fillIn l) 255 ≡ true)
+    go true q e = (e, (let s : k ≡ l = cc in ap (λ (x : List ℕ). leb (fillIn x) 255) (sym s) ∙ and-right (ltb (maskIn k) (2 ^ n)) _ q))
+    go false q e = absurd (let z : _≡_ {A = ℕ} 0 1 = cc in omega arith)
+
+pub numbers-within :
+    (n s : ℕ) (line : List ℕ) {mask fill : ℕ} {vs : List ℕ} → some (mask ∷ fill ∷ vs) ≡ runNumbers n s line → Within s fill vs
+unfolding runNumbers runWidths
+numbers-within n s line {mask} {fill} {vs} e =
+    let h = limits-of-some n (numbersOf (runWidths s) line) (mask ∷ fill ∷ vs) (sym e) in
+    let c : length (mask ∷ fill ∷ vs) ≡ length (runWidths s) = room-count (runWidths s) (mask ∷ fill ∷ vs) (room-of-numbers (runWidths s) line (mask ∷ fill ∷ vs) (h .0)) in
+    let r : length (runWidths s) ≡ suc (suc s) = ap (λ (k : ℕ). suc (suc k)) (length-replicate s patternWidth) in
+    record { count = omega (arith, c, r); small = leb-true fill 255 (h .1) }
+
+-- a line of form has its size
+pub numbers-size : (n s : ℕ) (line l : List ℕ) → runNumbers n s line ≡ some l → length line ≡ runLineSize s
+unfolding runNumbers runWidths total
+numbers-size n s line l e =
+    let h = limits-of-some n (numbersOf (runWidths s) line) l e in
+    numbers-length (runWidths s) line l (h .0) ∙ rw (total-of-columns s) (omega arith)
+
+-- what the code was told of a line
+pub read-told :
+    (n s : ℕ) (line : List ℕ) {r : LineRead} {mask fill : ℕ} (vs : List ℕ) →
+    r ≡ Whole mask fill →
+    lineRead r vs ≡ runNumbers n s line →
+    some (mask ∷ fill ∷ vs) ≡ runNumbers n s line
+read-told n s line vs e f = sym (ap (λ (x : LineRead). lineRead x vs) e) ∙ f
+
+pub read-refused : (n s : ℕ) (line : List ℕ) {r : LineRead} (vs : List ℕ) → r ≡ Refused → lineRead r vs ≡ runNumbers n s line → runNumbers n s line ≡ none
+read-refused n s line vs e f = sym f ∙ ap (λ (x : LineRead). lineRead x vs) e
+
+-- the patterns fit their array
+pub take-fits : (n : ℕ) (l : List ℕ) → length (take n l) ≡ n → n ≤ length l
+take-fits zero l e = omega arith
+take-fits (suc n) [] e = absurd (omega arith)
+take-fits (suc n) (x ∷ l) e = let h : n ≤ length l = take-fits n l (omega arith) in omega arith
+
+-- the bytes that are filled are the frame's
+pub faults-filled : (p : Plan) (sys : System) (l bytes : List ℕ) → length bytes ≡ faultsSize p → replicate (length bytes) (fillIn l) ≡ faultBytes p sys l
+unfolding faultBytes
+faults-filled p sys l bytes e = rw e
+
+-- ---- a line that is refused or run
+
+module _ (p : Plan) (sys : System) (single : Memory) (frame : ℕ) (r : Stepped) where
+  pub step-refused :
+      (out faults : List ℕ) (o : Option (List ℕ)) →
+      o ≡ none →
+      (r .taken ≡ false) × (r .system ≡ sys) × (r .single ≡ single) →
+      (r ≡ stepAnswer p sys single o) × (out ≡ stepPlace p sys single frame o out) × (faults ≡ stepFaults p sys o faults)
+  unfolding stepAnswer stepPlace stepFaults
+  step-refused out faults o e h = rw e ((λ i. record { taken = h .0 i; system = h .1 i; single = h .2 i }), refl, refl)
+
+  pub step-taken :
+      (out bytes sensors faults place : List ℕ) (mask : ℕ) (o : Option (List ℕ)) (l : List ℕ) →
+      o ≡ some l →
+      sensors ≡ sensorsIn l →
+      mask ≡ maskIn l →
+      faults ≡ faultBytes p sys l →
+      (r .taken ≡ true) × (r .system ≡ systemAfter p sys sensors mask faults) × (r .single ≡ computed p sensors single) × (out ≡ row (printedWidths (p .actuators)) (frame ∷ howMany (isWorking p sys mask) (p .nodes) ∷ agreeing p (r .system) (r .single) ∷ placeAfter p sys sensors mask faults (replicate (p .actuators) 0))) →
+      (r ≡ stepAnswer p sys single o) × (out ≡ stepPlace p sys single frame o place) × (faults ≡ stepFaults p sys o bytes)
+  unfolding stepAnswer stepPlace stepFaults systemNext singleNext frameLine working planes
+  step-taken out bytes sensors faults place mask o l e s m f h =
+      let a : r .system ≡ systemNext p sys l = h .1 ∙ rw (s, m, f) in
+      let b : r .single ≡ singleNext p single l = h .2 ∙ rw s in
+      rw e ((λ i. record { taken = h .0 i; system = a i; single = b i }), h .3 ∙ rw (a, b, s, m, f), f)
+
+-- what a step that was or was not taken says of the numbers
+pub taken-none : (p : Plan) (sys : System) (single : Memory) (r : Stepped) (o : Option (List ℕ)) → r ≡ stepAnswer p sys single o → r .taken ≡ false → o ≡ none
+unfolding stepAnswer
+taken-none p sys single r none e t = refl
+taken-none p sys single r (some l) e t = absurd (clash refl (ap (λ (x : Stepped). x .taken) (sym e) ∙ t))
+
+pub taken-some : (p : Plan) (sys : System) (single : Memory) (r : Stepped) (o : Option (List ℕ)) → r ≡ stepAnswer p sys single o → r .taken ≡ true → (l : List ℕ) × (o ≡ some l)
+unfolding stepAnswer
+taken-some p sys single r none e t = absurd (clash t (ap (λ (x : Stepped). x .taken) e))
+taken-some p sys single r (some l) e t = (l, refl)
+
+-- a line that is run is not too late
+pub line-in-time : (p : Plan) (frame : ℕ) (line l : List ℕ) → lineNumbers p frame line ≡ some l → frame < mostLines
+line-in-time p frame line l e =
+    split (ltb frame mostLines)
+    (λ t. ltb-true frame mostLines t)
+    (λ t. absurd (none-some (sym (late t) ∙ e)))
+  where
+    late : ltb frame mostLines ≡ false → lineNumbers p frame line ≡ none
+    late t = line-late p frame line (ltb-false frame mostLines t)

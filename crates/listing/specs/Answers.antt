@@ -1,0 +1,110 @@
+-- What the calls on a run answer, refused or not. Beside a refusal a state handed in and the lent buffer stay as they were, and a new state is all zero.
+use mathlib.Core.Bool.{Bool, not, cond, _&&_, _||_}
+use mathlib.Core.List.{List, _++_}
+use mathlib.Core.Option.{Option, none, some, Option·getD}
+use Prim.Native.Nat.{ℕ, _+_, min}
+use lib.Dec.{eqb, leb}
+use lib.ListN.{length, take, drop}
+use Rattle.answer.specs.declared.Answer.{Answer}
+use Rattle.answer.specs.declared.Answer.the-variants.{Done, InvalidPlan, WrongLength, MaskOrCount, RunLine}
+use Rattle.answer.specs.Refusal.{numberOf}
+use Rattle.plan.specs.declared.Plan.{Plan}
+use Rattle.plan.specs.Known.{period}
+use Rattle.plan.specs.Accepted.{accepted}
+use Rattle.plan_text.specs.declared.TextWritten.{TextWritten}
+use Rattle.plan_text.specs.Meant.{zeroPlan, planOf}
+use Rattle.plan_text.specs.Refused.{textRefusal}
+use Rattle.node.specs.Node.{zeroMemory, poweredOn}
+use Rattle.system.specs.System.{zeroSystem, powerOn}
+use Rattle.system.specs.Frame.{countsOk}
+use Rattle.listing.specs.declared.Run.{Run}
+use Rattle.listing.specs.declared.Started.{Started}
+use Rattle.listing.specs.declared.Printed.{Printed}
+use Rattle.listing.specs.Line.{runLineSize, printedSize, refusalLine, refusalSize}
+use Rattle.listing.specs.Listing.{mostLines, isSome, lineNumbers, systemNext, singleNext, frameLine}
+
+-- ---- start
+
+abbrev pub zeroRun : Run
+zeroRun = record { plan = zeroPlan; period = 0; system = zeroSystem; single = zeroMemory; frame = 0 }
+
+-- a run of an accepted plan at power-on
+unfoldable pub startOf : Plan → Run
+startOf p = record { plan = p; period = period p; system = powerOn p; single = poweredOn p; frame = 0 }
+
+unfoldable pub unlessRefused : Option Answer → Run → Run
+unlessRefused none r = r
+unlessRefused (some a) r = zeroRun
+
+unfoldable pub startAnswer : List ℕ → Started
+startAnswer s = record { answer = Option·getD (textRefusal s) Done; run = unlessRefused (textRefusal s) (startOf (planOf s)) }
+
+-- ---- the next line, of what is left of the run
+
+-- the state after a frame from the line's numbers l. The period handed in counts for nothing: it is the plan's.
+unfoldable pub runAfter : Run → List ℕ → Run
+runAfter r l =
+    record {
+      plan = r .plan;
+      period = period (r .plan);
+      system = systemNext (r .plan) (r .system) l;
+      single = singleNext (r .plan) (r .single) l;
+      frame = r .frame + 1;
+    }
+
+-- the numbers of the next line, if it is not refused: 10
+unfoldable pub nextNumbers : Run → List ℕ → Option (List ℕ)
+nextNumbers r rest = lineNumbers (r .plan) (r .frame) (take (runLineSize (r .plan .sensors)) rest)
+
+-- 7, 9, 8: "a text buffer too short"
+unfoldable pub inTurn : Run → ℕ → Answer → Answer
+inTurn r room line =
+    cond (accepted (r .plan))
+    (cond (countsOk (r .plan) (r .system)) (cond (leb (printedSize (r .plan .actuators)) room) line WrongLength) MaskOrCount)
+    InvalidPlan
+
+unfoldable pub inOrder : Run → ℕ → Bool
+inOrder r room = accepted (r .plan) && countsOk (r .plan) (r .system) && leb (printedSize (r .plan .actuators)) room
+
+-- then 10; where nothing is left the listing ends. A frame number from 100,000 on has line 100,001.
+unfoldable pub lineAnswer : Run → List ℕ → Answer
+lineAnswer r rest = cond (eqb (length rest) 0 || isSome (nextNumbers r rest)) Done (RunLine (min (r .frame) mostLines + 1))
+
+-- the numbers of the line that is run
+unfoldable pub taken : Run → List ℕ → ℕ → Option (List ℕ)
+taken r rest room = cond (inOrder r room) (nextNumbers r rest) none
+
+unfoldable pub runTaken : Run → Option (List ℕ) → Run
+runTaken r none = r
+runTaken r (some l) = runAfter r l
+
+unfoldable pub nextAnswer : Run → List ℕ → ℕ → Printed
+nextAnswer r rest room =
+    record {
+      answer = inTurn r room (lineAnswer r rest);
+      count = cond (isSome (taken r rest room)) (printedSize (r .plan .actuators)) 0;
+      run = runTaken r (taken r rest room);
+    }
+
+unfoldable pub placeTaken : Run → Option (List ℕ) → List ℕ → List ℕ
+placeTaken r none out = out
+placeTaken r (some l) out =
+    frameLine (r .plan) (r .system) (r .single) (r .frame) l ++ drop (printedSize (r .plan .actuators)) out
+
+unfoldable pub nextPlace : Run → List ℕ → List ℕ → List ℕ
+nextPlace r rest out = placeTaken r (taken r rest (length out)) out
+
+-- ---- the line of a refusal; an answer that is none has no line
+
+abbrev pub isDone : Answer → Bool
+isDone a = eqb (numberOf a) 0
+
+unfoldable pub refusalWritten : Answer → ℕ → TextWritten
+refusalWritten a room =
+    record {
+      answer = cond (leb refusalSize room) Done WrongLength;
+      count = cond (leb refusalSize room && not (isDone a)) refusalSize 0;
+    }
+
+unfoldable pub refusalPlace : Answer → List ℕ → List ℕ
+refusalPlace a out = cond (leb refusalSize (length out) && not (isDone a)) (refusalLine a ++ drop refusalSize out) out

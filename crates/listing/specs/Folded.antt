@@ -1,0 +1,34 @@
+-- The calls made one after another, as a program makes them: start from the plan text; then the next line of what is left, until nothing is left or a
+-- line is refused. The listing is what they print (proofs/FoldedLaws).
+use mathlib.Core.Bool.{cond}
+use mathlib.Core.List.{List, [], _++_}
+use Prim.Native.Nat.{ℕ, zero, suc}
+use lib.Dec.{eqb}
+use lib.ListN.{take, drop, replicate}
+use Rattle.listing.specs.declared.Run.{Run}
+use Rattle.listing.specs.declared.Printed.{Printed}
+use Rattle.listing.specs.Line.{runLineSize, printedSize, refusalLine}
+use Rattle.listing.specs.Listing.{mostLines}
+use Rattle.listing.specs.Answers.{startAnswer, nextAnswer, nextPlace, isDone}
+
+-- a buffer for a line
+abbrev pub blank : Run → List ℕ
+blank r = replicate (printedSize (r .plan .actuators)) 0
+
+-- what the next call says
+abbrev pub nextOf : Run → List ℕ → Printed
+nextOf r rest = nextAnswer r rest (printedSize (r .plan .actuators))
+
+-- what at most k calls print
+unfoldable pub printedBy : ℕ → Run → List ℕ → List ℕ
+printedBy zero r rest = []
+printedBy (suc k) r rest =
+    cond (isDone (nextOf r rest .answer))
+    (cond (eqb (nextOf r rest .count) 0) []
+    (take (nextOf r rest .count) (nextPlace r rest (blank r)) ++ printedBy k (nextOf r rest .run) (drop (runLineSize (r .plan .sensors)) rest)))
+    (refusalLine (nextOf r rest .answer))
+
+unfoldable pub folded : List ℕ → List ℕ → List ℕ
+folded plan run =
+    cond (isDone (startAnswer plan .answer)) (printedBy (suc mostLines) (startAnswer plan .run) run)
+    (refusalLine (startAnswer plan .answer))

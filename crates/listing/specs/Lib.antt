@@ -1,0 +1,5 @@
+pub mod Line
+pub mod Listing
+pub mod Answers
+pub mod Folded
+pub mod Step
