@@ -109,8 +109,8 @@ pub fn working(plan: Plan, system: System, mask: u64) -> Counted
             count: 0,
         };
     }
-    let nodes = plan.nodes;
-    if !(mask_ok(nodes, mask) & step::counts_ok(&system.good, nodes, period)) {
+    let n = plan.nodes;
+    if !(mask_ok(n, mask) & step::counts_ok(&system.good, n, period)) {
         return Counted {
             answer: Answer::MaskOrCount,
             count: 0,

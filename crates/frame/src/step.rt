@@ -417,6 +417,51 @@ fn settle_all(
     all
 }
 
+// Every node after the frame, where more than half sent the counter as good ones.
+fn vote_agreed(
+    voted: &[bool; Plan::VOTES],
+    nodes: usize,
+    frames: usize,
+    cells: usize,
+    actuators: usize,
+    faults: &[u8],
+    mask: u64,
+    counter: u16,
+    own: [Memory; System::NODES],
+    bins: &mut [u8],
+) -> [Memory; System::NODES]
+    requires { ⌜ Small nodes cells actuators × (counter < frames) × (frames ≤ mostFrames) × (length (now faults) ≡ allFaults nodes cells actuators) × (length (now bins) ≡ nodes * cellAt cells) × (nodes < 2 * goodHolders mask (λ j. be counterSize (now bins) (j * cellAt cells)) nodes counter) ⌝ }
+    ensures { λ r. ⌜ ((p : Plan) → Counts p nodes cells actuators → p .frames ≡ frames → p .voted ≡ now (voted .entry) → r ≡ fill (λ i. after p (now (faults .entry)) mask (now (bins .entry)) i (getD own i zeroMemory)) (p .nodes) own) ⌝ }
+{
+    let frame = node::step::frame_before(counter, frames);
+    let mut value = [0u64; Plan::CELLS];
+    if !decide(voted, nodes, cells, frame, mask, bins, &mut value) {
+        return vote_each(
+            voted,
+            nodes,
+            frames,
+            cells,
+            actuators,
+            faults,
+            mask,
+            own,
+            bins,
+        );
+    }
+    settle_all(
+        voted,
+        nodes,
+        cells,
+        actuators,
+        faults,
+        mask,
+        frame,
+        &value,
+        counter,
+        own,
+    )
+}
+
 // Every node after the frame. What more than half sent as good ones every receiver hears from more than half, so that is decided once.
 fn vote_all(
     voted: &[bool; Plan::VOTES],
@@ -448,32 +493,17 @@ fn vote_all(
         );
     }
     let counter = agreed as u16;
-    let frame = node::step::frame_before(counter, frames);
-    let mut value = [0u64; Plan::CELLS];
-    if !decide(voted, nodes, cells, frame, mask, bins, &mut value) {
-        return vote_each(
-            voted,
-            nodes,
-            frames,
-            cells,
-            actuators,
-            faults,
-            mask,
-            own,
-            bins,
-        );
-    }
-    settle_all(
+    vote_agreed(
         voted,
         nodes,
+        frames,
         cells,
         actuators,
         faults,
         mask,
-        frame,
-        &value,
         counter,
         own,
+        bins,
     )
 }
 

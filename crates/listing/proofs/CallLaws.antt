@@ -1,15 +1,15 @@
 -- What the calls on a run answer, one law for each way out.
 use mathlib.Core.Path.{_≡_, refl, sym, ap, _∙_}
-use mathlib.Core.Bool.{Bool, true, false, not, cond, _&&_, _||_}
-use mathlib.Core.List.{List, [], _∷_, _++_, append-nil}
+use mathlib.Core.Bool.{Bool, true, false, not, _&&_}
+use mathlib.Core.List.{List, [], append-nil}
 use mathlib.Core.Option.{Option, none, some, Option·getD}
-use Prim.Native.Nat.{ℕ, suc, _+_, _-_, _≤_, _<_, min}
+use Prim.Native.Nat.{ℕ, _+_, _-_, _≤_, _<_, min}
 use native.Mathlib.Omega.{arith}
 use native.Mathlib.Nat.{min-eq-left, min-eq-right}
 use lib.Dec.{eqb, leb}
 use lib.ListN.{length, take, drop, take-append-drop, drop-of-length-le}
 use lib.Seq.{length-take-le}
-use borrow.Author.Tests.{eqb-true, eq-eqb, ne-eqb, le-leb, lt-leb}
+use borrow.Author.Tests.{eq-eqb, ne-eqb, le-leb, lt-leb}
 use borrow.Rule.Slice.PartMut.{putMid}
 use Rattle.array.proofs.TestLaws.{and-false-right}
 use Rattle.answer.specs.declared.Answer.{Answer}
@@ -20,7 +20,6 @@ use Rattle.plan.specs.Known.{period}
 use Rattle.plan.specs.Accepted.{accepted, wellFormed, headerOk, storable}
 use Rattle.plan.specs.Answers.{acceptedPeriod}
 use Rattle.plan_text.specs.declared.PlanRead.{PlanRead}
-use Rattle.plan_text.specs.declared.TextWritten.{TextWritten}
 use Rattle.plan_text.specs.Meant.{zeroPlan, planOf}
 use Rattle.plan_text.specs.Refused.{textRefusal}
 use Rattle.plan_text.specs.Answers.{readAnswer}
@@ -40,8 +39,8 @@ use Rattle.listing.specs.declared.Started.{Started}
 use Rattle.listing.specs.declared.Printed.{Printed}
 use Rattle.listing.specs.declared.step.Stepped.{Stepped}
 use Rattle.listing.specs.Line.{runLineSize, printedSize, refusalLine, refusalSize}
-use Rattle.listing.specs.Listing.{mostLines, isSome, lineNumbers, frameLine}
-use Rattle.listing.specs.Answers.{zeroRun, startOf, unlessRefused, startAnswer, runAfter, nextNumbers, inTurn, inOrder, lineAnswer, taken, runTaken, nextAnswer, placeTaken, nextPlace, isDone, refusalWritten, refusalPlace}
+use Rattle.listing.specs.Listing.{mostLines, lineNumbers, frameLine}
+use Rattle.listing.specs.Answers.{zeroRun, startOf, unlessRefused, startAnswer, runAfter, nextNumbers, inTurn, inOrder, lineAnswer, taken, runTaken, nextAnswer, placeTaken, nextPlace, refusalWritten, refusalPlace}
 use Rattle.listing.specs.Step.{stepAnswer, stepPlace, takenOr, lineTaken}
 use Rattle.listing.proofs.StepLaws.{empty-of-length, nothing-numbers, taken-none, taken-some, line-in-time}
 use Rattle.listing.proofs.WritingLaws.{frame-length}

@@ -1,17 +1,16 @@
 -- The listing is what the calls print, made one after another over the lines of the run.
 use mathlib.Core.Path.{_≡_, refl, sym, ap, _∙_}
-use mathlib.Core.Bool.{Bool, true, false, cond, _&&_, _||_}
-use mathlib.Core.List.{List, [], _∷_, _++_, append-assoc, append-nil}
+use mathlib.Core.Bool.{Bool, true, false, cond, _&&_}
+use mathlib.Core.List.{List, [], _∷_, _++_, append-assoc}
 use mathlib.Core.Option.{Option, none, some, Option·getD}
 use Prim.Native.Nat.{ℕ, zero, suc, _+_, _-_, _*_, _≤_, _<_, min}
 use native.Mathlib.Omega.{arith}
-use native.Mathlib.Numerals.{add-one}
 use native.Mathlib.Nat.{zero-mul, suc-mul, min-eq-left, min-le-left}
 use lib.Dec.{eqb, leb, ltb}
 use lib.ListN.{length, getD, take, drop, replicate, length-drop, length-replicate}
 use lib.Seq.{drop-drop, take-at}
 use borrow.Author.Tests.{eq-eqb, ne-eqb, eqb-true, eqb-false, lt-ltb, le-ltb, ltb-true, ltb-false, le-leb}
-use Rattle.array.specs.Index.{joined, fill, allBelow}
+use Rattle.array.specs.Index.{joined, fill}
 use Rattle.array.proofs.TestLaws.{split}
 use Rattle.array.proofs.IndexLaws.{allBelow-all}
 use Rattle.array.proofs.PlacesLaws.{fill-length, fill-in, joined-same}
@@ -35,7 +34,7 @@ use Rattle.system.specs.Fault.{bad}
 use Rattle.system.specs.Frame.{goodOf, goodAfter, systemAfter, countsOk}
 use Rattle.listing.specs.declared.Run.{Run}
 use Rattle.listing.specs.Line.{maskIn, sensorsIn, runLineSize, runNumbers, printedSize, refusalLine}
-use Rattle.listing.specs.Listing.{mostLines, leading, isSome, lineNumbers, faultBytes, systemNext, singleNext, frameLine, lineOf, numbersOf, systemAt, singleAt, printedAt, frames, printed, lineLeft, runListing, listing}
+use Rattle.listing.specs.Listing.{mostLines, leading, isSome, faultBytes, systemNext, singleNext, frameLine, lineOf, numbersOf, systemAt, singleAt, printedAt, frames, printed, lineLeft, runListing, listing}
 use Rattle.listing.specs.Listing as whole
 use Rattle.listing.specs.Answers.{startOf, unlessRefused, startAnswer, runAfter, nextNumbers, inTurn, inOrder, lineAnswer, taken, runTaken, nextAnswer, placeTaken, nextPlace, isDone}
 use Rattle.listing.specs.Folded.{blank, nextOf, printedBy, folded}

@@ -1,7 +1,7 @@
 -- A run, line by line: how many frames are run, and what stands after each of them.
 use mathlib.Core.Path.{_≡_, refl, sym, ap, _∙_}
 use mathlib.Core.Bool.{Bool, true, false, cond, _&&_}
-use mathlib.Core.List.{List, [], _∷_, _++_, append-assoc, append-nil}
+use mathlib.Core.List.{List, [], _++_, append-assoc}
 use mathlib.Core.Option.{Option, none, some, Option·getD}
 use Prim.Native.Nat.{ℕ, zero, suc, _+_, _-_, _*_, _≤_, _<_, min}
 use native.Mathlib.Omega.{arith}
@@ -14,8 +14,7 @@ use borrow.Author.Tests.{eq-eqb, eqb-true, eqb-false, lt-ltb, le-ltb, ltb-true, 
 use borrow.Rule.Slice.PartMut.{putMid}
 use Rattle.array.specs.Index.{joined}
 use Rattle.array.proofs.TestLaws.{split, clash, and-left, and-right, and-false-left, and-false-right}
-use Rattle.array.proofs.PlacesLaws.{joined-none, joined-more}
-use Rattle.answer.specs.declared.Answer.{Answer}
+use Rattle.array.proofs.PlacesLaws.{joined-more}
 use Rattle.answer.specs.declared.Answer.the-variants.{Done, RunLine}
 use Rattle.answer.specs.Refusal.{numberOf}
 use Rattle.plan.specs.declared.Plan.{Plan}
@@ -25,8 +24,8 @@ use Rattle.listing.specs.declared.step.Stepped.{Stepped}
 use Rattle.listing.specs.declared.Run.{Run}
 use Rattle.listing.specs.declared.Printed.{Printed}
 use Rattle.system.specs.Fault.{faultsSize}
-use Rattle.listing.specs.Line.{fillIn, runLineSize, runNumbers, printedSize}
-use Rattle.listing.specs.Listing.{mostLines, leading, isSome, lineNumbers, faultBytes, systemNext, singleNext, frameLine, lineOf, numbersOf, systemAt, singleAt, printedAt, frames, printed, lineLeft}
+use Rattle.listing.specs.Line.{fillIn, runLineSize, printedSize}
+use Rattle.listing.specs.Listing.{mostLines, leading, isSome, lineNumbers, faultBytes, frameLine, lineOf, numbersOf, systemAt, singleAt, printedAt, frames, printed, lineLeft}
 use Rattle.listing.specs.Step.{blockLines, stepAnswer, stepPlace, stepFaults, printedWith, framesIn, linesAnswer, linesPlace}
 use Rattle.listing.proofs.StepLaws.{part-taken, take-fits, numbers-size, nothing-read, line-early, line-in-time, taken-none, taken-some}
 use Rattle.listing.proofs.WritingLaws.{frame-length}

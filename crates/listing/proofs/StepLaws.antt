@@ -8,7 +8,7 @@ use native.Mathlib.Omega.{arith}
 use native.Mathlib.Numerals.{add-one}
 use native.Mathlib.Nat.{mul-le-mul, min-eq-left, min-eq-right, min-le-right, le-min}
 use lib.Dec.{leb, ltb}
-use lib.ListN.{length, getD, set, take, drop, replicate, length-append, length-replicate, length-drop, drop-of-length-le, replicate-append-replicate}
+use lib.ListN.{length, set, take, drop, replicate, length-append, length-replicate, length-drop, drop-of-length-le, replicate-append-replicate}
 use lib.Seq.{set-split, length-take-le, take-nil, take-all, take-at, drop-at, drop-drop}
 use borrow.Author.Tests.{le-ltb, lt-ltb, ltb-true, ltb-false, leb-true, leb-false}
 use borrow.Rule.Slice.PartMut.{putMid}

@@ -1,11 +1,11 @@
 -- Lines of the listing, column after column.
 use mathlib.Core.Path.{_≡_, refl, sym, ap, _∙_}
 use mathlib.Core.List.{List, [], _∷_, _++_, append-assoc, append-nil}
-use Prim.Native.Nat.{ℕ, zero, suc, _+_, _-_, _*_, _≤_, _<_}
+use Prim.Native.Nat.{ℕ, zero, suc, _+_, _-_, _*_, _≤_}
 use native.Mathlib.Omega.{arith}
 use native.Mathlib.Numerals.{add-one}
 use lib.ListN.{length, getD, set, take, drop, replicate, length-append, length-set, drop-of-length-le}
-use lib.Seq.{getD-take, set-split, length-take-le}
+use lib.Seq.{getD-take, set-split}
 use borrow.Rule.Slice.PartMut.{putMid}
 use Rattle.array.specs.Index.{joined}
 use Rattle.array.proofs.PlacesLaws.{joined-same, joined-more}
@@ -16,7 +16,7 @@ use Rattle.column.specs.Row.{row}
 use Rattle.column.proofs.ColumnLaws.{column-length}
 use Rattle.column.proofs.RowLaws.{total, row-length}
 use Rattle.plan_text.specs.Reader.{placed}
-use Rattle.plan_text.proofs.WriterLaws.{Laid, laid-none, lay, placed-none, placed-length, placed-next}
+use Rattle.plan_text.proofs.WriterLaws.{laid-none, lay, placed-none, placed-length, placed-next}
 use Rattle.plan.specs.declared.Plan.{Plan}
 use Rattle.node.specs.declared.Memory.{Memory}
 use Rattle.system.specs.declared.System.{System}

@@ -1,6 +1,6 @@
 -- Document 01, 'The run program': the lines of a run and of its listing. "A run line, its columns formed as a plan's: mask (width 4), fill (4), S
 -- patterns (20 each), line feed".
-use mathlib.Core.Bool.{Bool, cond, _&&_}
+use mathlib.Core.Bool.{cond, _&&_}
 use mathlib.Core.List.{List, [], _∷_}
 use mathlib.Core.Option.{Option, none, some}
 use Prim.Native.Nat.{ℕ, _+_, _*_, _^_}

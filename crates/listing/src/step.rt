@@ -2,8 +2,8 @@
 ghost use mathlib.Core.Path.{_≡_};
 ghost use mathlib.Core.Bool.{true, false};
 ghost use mathlib.Core.List.{_∷_, _++_, []};
-ghost use Prim.Native.Nat.{ℕ, _+_, _*_, _≤_, min};
-ghost use lib.ListN.{length, drop, replicate, getD, take};
+ghost use Prim.Native.Nat.{_+_, _*_, _≤_, min};
+ghost use lib.ListN.{length, replicate, getD, take};
 ghost use Rattle.array.specs.Index.{howMany, joined};
 ghost use Rattle.column.specs.Column.{column};
 ghost use Rattle.column.specs.Row.{row, numbersFrom};

@@ -1,9 +1,12 @@
 // Repeats one call on the plan in `plan.txt`, so that bench/ can count what it costs: the difference between two counts of repeats.
-// Standard input has a row: what (width 4) and how often (8). 1: plan_text::read. 2: plan::check. It prints a sum of what the calls gave.
+// Standard input has a row: what (width 4) and how often (8). 1: plan_text::read. 2: plan::check. 3: a node's compute, message and vote. 4: a frame of
+// the whole system. 5: the same with node 0 bad. It prints a sum of what the calls gave.
 use column::Number;
 use libc::STDIN_FILENO;
 use libc::STDOUT_FILENO;
+use node::Memory;
 use plan::Plan;
+use system::System;
 
 fn number(s: &[u8], from: usize, to: usize) -> u64 {
     match column::read(s, from, to) {
@@ -41,6 +44,147 @@ fn check_often(plan: Plan, times: u64) -> u64 {
     sum
 }
 
+// A mailbox of equal messages.
+fn fill_mailbox(plan: Plan, memory: Memory, bins: &mut [u8], size: usize) {
+    if size == 0 {
+        return;
+    }
+    let n = bins.len();
+    let mut at: usize = 0;
+    while at < n {
+        if n - at < size {
+            return;
+        }
+        node::message(plan, memory, &mut bins[at..at + size]);
+        at += size;
+    }
+}
+
+// The memory one frame before the last.
+fn before_last(m: Memory, frames: usize) -> Memory {
+    if frames < 2 {
+        return m;
+    }
+    if frames > Plan::FRAMES {
+        return m;
+    }
+    let counter = (frames - 2) as u16;
+    let cells = m.cells;
+    Memory { counter, cells }
+}
+
+// The mailbox stays, so each repeat computes in the last frame, where the scan of the tasks is longest.
+fn node_often(plan: Plan, times: u64, sensors: &mut [u64], bins: &mut [u8], out: &mut [u8]) -> u64 {
+    if plan::accepted_period(plan) == 0 {
+        return 0;
+    }
+    let nodes = plan.nodes;
+    let frames = plan.frames;
+    let cells = plan.cells;
+    let count = plan.sensors;
+    let size = node::step::message_size(cells);
+    if sensors.len() != count {
+        return 0;
+    }
+    if bins.len() != nodes * size {
+        return 0;
+    }
+    if out.len() != size {
+        return 0;
+    }
+    let start = before_last(node::step::power_on(plan), frames);
+    let mut m = node::step::compute(plan, start, sensors);
+    fill_mailbox(plan, m, bins, size);
+    let mut k: u64 = 0;
+    while k < times {
+        sensors[0] = k;
+        let next = node::step::compute(plan, m, sensors);
+        node::step::message_with(&plan.voted, frames, cells, next, out);
+        m = node::step::vote_with(&plan.voted, nodes, frames, cells, next, bins);
+        k += 1;
+    }
+    m.cells[0] % 1000
+}
+
+fn frame_often(
+    plan: Plan,
+    times: u64,
+    mask: u64,
+    sensors: &mut [u64],
+    faults: &[u8],
+    place: &mut [u64],
+) -> u64 {
+    let period = plan::accepted_period(plan);
+    if period == 0 {
+        return 0;
+    }
+    let nodes = plan.nodes;
+    let cells = plan.cells;
+    let count = plan.sensors;
+    let actuators = plan.actuators;
+    let block = frame::step::fault_size(nodes, cells, actuators);
+    if sensors.len() != count {
+        return 0;
+    }
+    if faults.len() != nodes * block {
+        return 0;
+    }
+    if place.len() != actuators {
+        return 0;
+    }
+    let started = System::power_on(plan);
+    let mut system = started.system;
+    let mut k: u64 = 0;
+    while k < times {
+        sensors[0] = k;
+        system = frame::step::frame(plan, period, system, sensors, mask, faults, place);
+        k += 1;
+    }
+    place[0] % 1000
+}
+
+// The buffers that a plan within the limits wants.
+fn step_often(plan: Plan, what: u64, times: u64) -> u64 {
+    let nodes = plan.nodes;
+    let cells = plan.cells;
+    let count = plan.sensors;
+    let actuators = plan.actuators;
+    if nodes > Plan::NODES {
+        return 0;
+    }
+    if cells > Plan::CELLS {
+        return 0;
+    }
+    if count > Plan::SENSORS {
+        return 0;
+    }
+    if actuators > Plan::ACTUATORS {
+        return 0;
+    }
+    let size = node::step::message_size(cells);
+    let block = frame::step::fault_size(nodes, cells, actuators);
+    let all = nodes * block;
+    let end = nodes * size;
+    let mut sensors = [0u64; Plan::SENSORS];
+    let mut bins = [0u8; 1806];
+    let mut out = [0u8; 258];
+    let faults = [0u8; 14896];
+    let mut place = [0u64; Plan::ACTUATORS];
+    let readings = &mut sensors[0..count];
+    if what == 3 {
+        return node_often(plan, times, readings, &mut bins[0..end], &mut out[0..size]);
+    }
+    let mask = what % 2;
+    frame_often(
+        plan,
+        times,
+        mask,
+        readings,
+        &faults[0..all],
+        &mut place[0..actuators],
+    )
+}
+
 fn repeat(buffer: &mut [u8], n: usize, what: u64, times: u64) {
     if buffer.len() < n {
         return;
@@ -52,7 +196,11 @@ fn repeat(buffer: &mut [u8], n: usize, what: u64, times: u64) {
     }
     let read = plan_text::read(text);
     let plan = read.plan;
-    io::print_decimal(STDOUT_FILENO, check_often(plan, times));
+    if what == 2 {
+        io::print_decimal(STDOUT_FILENO, check_often(plan, times));
+        return;
+    }
+    io::print_decimal(STDOUT_FILENO, step_often(plan, what, times));
 }
 
 fn main() {

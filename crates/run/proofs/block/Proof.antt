@@ -1,5 +1,5 @@
 -- `run::block` meets its contract.
-use mathlib.Core.Path.{_≡_, refl, sym, ap, _∙_}
+use mathlib.Core.Path.{_≡_, refl, sym, _∙_}
 use mathlib.Core.List.{List}
 use Prim.Native.Nat.{ℕ, _-_, _<_}
 use native.Mathlib.Omega.{arith}
@@ -11,45 +11,17 @@ use borrow.Author.Needs.{needs}
 use borrow.Author.Tests.{eqb-true}
 use Rattle.run.proofs.block.Statement.{statement}
 use Rattle.run.proofs.block.Tie as tie
-use Rattle.run.proofs.block.Reads as reads
-use Rattle.run.proofs.block.Lts as lts
-use Rattle.answer.proofs.Answer.number.Reads as number-reads
-use Rattle.io.proofs.read_full.Reads as read-full-reads
-use Rattle.io.proofs.write_all.Reads as write-all-reads
-use Rattle.listing.proofs.step.lines.Reads as lines-reads
-use Rattle.run.proofs.print_refusal.Reads as print-refusal-reads
 
 whole-read : (l : List ℕ) (n : ℕ) → n ≡ length l → 0 < length l → 0 < length (take (n - 0) l)
 whole-read l n e f = let z : n - 0 ≡ n = omega (arith, e) in rw (z, length-take-le n l (omega (arith, e))) (omega (arith, e))
 
 -- src/main.rt:41:9
-read-full-requires : tie.Need-read-full-requires
-read-full-requires c κs = search needs
-
 -- src/main.rt:42:39
-sub-lines : tie.Need-sub-lines
-sub-lines c = search needs
-
 -- src/main.rt:42:39
-part-lines-start : tie.Need-part-lines-start
-part-lines-start c = search needs
-
 -- src/main.rt:42:39
-part-lines-end : tie.Need-part-lines-end
-part-lines-end c = search needs
-
 -- src/main.rt:42:9
-lines-requires : tie.Need-lines-requires
-lines-requires c κs = search needs
-
 -- src/main.rt:45:34
-sub-write-all : tie.Need-sub-write-all
-sub-write-all c = search needs
-
 -- src/main.rt:45:34
-part-write-all-start : tie.Need-part-write-all-start
-part-write-all-start c = search needs
-
 -- src/main.rt:45:34
 part-write-all-end : tie.Need-part-write-all-end
 part-write-all-end c =
@@ -58,25 +30,10 @@ part-write-all-end c =
     t .count-fits
 
 -- src/main.rt:45:5
-write-all-requires : tie.Need-write-all-requires
-write-all-requires c κs = search needs
-
 -- src/main.rt:47:8
-number-requires : tie.Need-number-requires
-number-requires c κs = search needs
-
 -- src/main.rt:48:9
-print-refusal-requires : tie.Need-print-refusal-requires
-print-refusal-requires c κs = search needs
-
 -- src/main.rt:49:9
-same-length : tie.Need-same-length
-same-length c = search needs
-
 -- src/main.rt:49:9
-same-length-2 : tie.Need-same-length-2
-same-length-2 c = search needs
-
 -- src/main.rt:49:9
 returns : tie.Need-returns
 returns c =
@@ -85,13 +42,7 @@ returns c =
     (search needs, t .same-length, t .same-plan, t .same-period, t .in-time, λ f. absurd (clash f refl))
 
 -- src/main.rt:37:1
-same-length-3 : tie.Need-same-length-3
-same-length-3 c = search needs
-
 -- src/main.rt:37:1
-same-length-4 : tie.Need-same-length-4
-same-length-4 c = search needs
-
 -- src/main.rt:37:1
 returns-2 : tie.Need-returns-2
 returns-2 c =
@@ -104,20 +55,20 @@ pub block-spec : {M : Type 1} → statement M
 block-spec =
     tie.close
     (tie.spec
-    read-full-requires
-    sub-lines
-    part-lines-start
-    part-lines-end
-    lines-requires
-    sub-write-all
-    part-write-all-start
+    (λ c κs. search needs)
+    (λ c. search needs)
+    (λ c. search needs)
+    (λ c. search needs)
+    (λ c κs. search needs)
+    (λ c. search needs)
+    (λ c. search needs)
     part-write-all-end
-    write-all-requires
-    number-requires
-    print-refusal-requires
-    same-length
-    same-length-2
+    (λ c κs. search needs)
+    (λ c κs. search needs)
+    (λ c κs. search needs)
+    (λ c. search needs)
+    (λ c. search needs)
     returns
-    same-length-3
-    same-length-4
+    (λ c. search needs)
+    (λ c. search needs)
     returns-2)

@@ -14,10 +14,6 @@ use Rattle.listing.specs.Listing.{mostLines}
 use Rattle.listing.proofs.StepLaws.{front-length}
 use Rattle.run.proofs.follow.Statement.{statement}
 use Rattle.run.proofs.follow.Tie as tie
-use Rattle.run.proofs.follow.Reads as reads
-use Rattle.run.proofs.follow.Lts as lts
-use Rattle.listing.proofs.step.line_size.Reads as line-size-reads
-use Rattle.run.proofs.block.Reads as block-reads
 
 abbrev Inv-loop : tie.InvT-loop
 Inv-loop file size run₀ input₀ out₀ run input out =

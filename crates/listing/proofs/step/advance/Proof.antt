@@ -1,5 +1,5 @@
 -- `listing::step::advance` meets its contract: what its parts give is the frame and its line.
-use mathlib.Core.Path.{_≡_, refl, _∙_}
+use mathlib.Core.Path.{refl}
 use mathlib.Core.List.{List}
 use Prim.Native.Nat.{ℕ}
 use lib.ListN.{replicate}
@@ -9,50 +9,22 @@ use Rattle.listing.proofs.StepLaws.{planes-lent, frame-printed}
 use borrow.Author.Needs.{needs}
 use Rattle.listing.proofs.step.advance.Statement.{statement}
 use Rattle.listing.proofs.step.advance.Tie as tie
-use Rattle.listing.proofs.step.advance.Reads as reads
-use Rattle.listing.proofs.step.advance.Lts as lts
-use Rattle.frame.proofs.step.agreeing.Reads as agreeing-reads
-use Rattle.frame.proofs.step.frame.Reads as frame-reads
-use Rattle.frame.proofs.step.working.Reads as working-reads
-use Rattle.listing.proofs.step.write_frame.Reads as write-frame-reads
-use Rattle.node.proofs.step.compute.Reads as compute-reads
 
 -- src/step.rt:107:9
-working-requires : tie.Need-working-requires
-working-requires c κs = search needs
-
 -- src/step.rt:116:9
-sub-frame : tie.Need-sub-frame
-sub-frame c = search needs
-
 -- src/step.rt:116:9
-part-planes-start : tie.Need-part-planes-start
-part-planes-start c = search needs
-
 -- src/step.rt:116:9
 part-planes-end : tie.Need-part-planes-end
 part-planes-end c = shape-of-accepted _ (c .before .before .before .before .pre .0) .actuators-le
 
 -- src/step.rt:109:9
-frame-requires : tie.Need-frame-requires
-frame-requires c κs = search needs
-
 -- src/step.rt:118:9
-compute-requires : tie.Need-compute-requires
-compute-requires c κs = search needs
-
 -- src/step.rt:119:9
-agreeing-requires : tie.Need-agreeing-requires
-agreeing-requires c κs = search needs
-
 -- src/step.rt:120:5
 write-frame-requires : tie.Need-write-frame-requires
 write-frame-requires c κs = (shape-of-accepted _ (c .before .before .before .before .before .before .before .before .before .before .before .pre .0) .actuators-le, c .before .before .before .before .before .before .before .before .before .before .before .pre .4)
 
 -- src/step.rt:92:1
-same-length : tie.Need-same-length
-same-length c = search needs
-
 -- src/step.rt:92:1
 returns : tie.Need-returns
 returns c =
@@ -65,13 +37,13 @@ pub advance-spec : {M : Type 1} → statement M
 advance-spec =
     tie.close
     (tie.spec
-    working-requires
-    sub-frame
-    part-planes-start
+    (λ c κs. search needs)
+    (λ c. search needs)
+    (λ c. search needs)
     part-planes-end
-    frame-requires
-    compute-requires
-    agreeing-requires
+    (λ c κs. search needs)
+    (λ c κs. search needs)
+    (λ c κs. search needs)
     write-frame-requires
-    same-length
+    (λ c. search needs)
     returns)

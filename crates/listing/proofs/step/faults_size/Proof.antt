@@ -5,14 +5,8 @@ use Rattle.listing.proofs.StepLaws.{faults-few}
 use borrow.Author.Needs.{needs}
 use Rattle.listing.proofs.step.faults_size.Statement.{statement}
 use Rattle.listing.proofs.step.faults_size.Tie as tie
-use Rattle.listing.proofs.step.faults_size.Reads as reads
-use Rattle.listing.proofs.step.faults_size.Lts as lts
-use Rattle.frame.proofs.step.fault_size.Reads as fault-size-reads
 
 -- src/step.rt:64:13
-fault-size-requires : tie.Need-fault-size-requires
-fault-size-requires c κs = search needs
-
 -- src/step.rt:64:5
 mul-result : tie.Need-mul-result
 mul-result c = omega (arith, rw (← c .fault-size .ensures) at (faults-few (c .before .args .nodes) (c .before .args .cells) (c .before .args .actuators) (c .before .pre .0) (c .before .pre .1) (c .before .pre .2)))
@@ -22,4 +16,4 @@ returns : tie.Need-returns
 returns c = (rw (c .fault-size .ensures) refl, rw (c .fault-size .ensures) (faults-few (c .before .args .nodes) (c .before .args .cells) (c .before .args .actuators) (c .before .pre .0) (c .before .pre .1) (c .before .pre .2)))
 
 pub faults-size-spec : {M : Type 1} → statement M
-faults-size-spec = tie.close (tie.spec fault-size-requires mul-result returns)
+faults-size-spec = tie.close (tie.spec (λ c κs. search needs) mul-result returns)

@@ -9,17 +9,8 @@ use Rattle.listing.proofs.StepLaws.{line-late, line-early, read-told, r
 use borrow.Author.Needs.{needs}
 use Rattle.listing.proofs.step.line.Statement.{statement}
 use Rattle.listing.proofs.step.line.Tie as tie
-use Rattle.listing.proofs.step.line.Reads as reads
-use Rattle.listing.proofs.step.line.Lts as lts
-use Rattle.listing.proofs.step.read_line.Reads as read-line-reads
-use Rattle.listing.proofs.step.advance.Reads as advance-reads
-use Rattle.listing.proofs.step.refused.Reads as refused-reads
-use Rattle.listing.proofs.step.spread.Reads as spread-reads
 
 -- src/step.rt:143:9
-refused-requires : tie.Need-refused-requires
-refused-requires c κs = search needs
-
 -- src/step.rt:143:9
 returns : tie.Need-returns
 returns c = step-refused (c .before .before .before .before .before .args .plan) (c .before .before .before .before .before .args .system) (c .before .before .before .before .before .args .single) (c .before .before .before .before .before .args .frame) (c .refused .result) _ _ _ (line-late (c .before .before .before .before .before .args .plan) (c .before .before .before .before .before .args .frame) (c .before .before .before .before .before .args .line .now) (c .before .if1 .taken)) (c .refused .ensures)
@@ -29,17 +20,8 @@ read-line-requires : tie.Need-read-line-requires
 read-line-requires c κs = let s = shape-of-accepted (c .before .before .before .before .before .args .plan) (c .before .before .before .before .before .pre .0) in (s .nodes-high, s .sensors-le)
 
 -- src/step.rt:148:25
-enum-known-mask : tie.Need-enum-known-mask
-enum-known-mask c = search needs
-
 -- src/step.rt:150:9
-enum-told : tie.Need-enum-told
-enum-told c = search needs
-
 -- src/step.rt:150:9
-refused-requires-2 : tie.Need-refused-requires-2
-refused-requires-2 c κs = search needs
-
 -- src/step.rt:150:9
 returns-2 : tie.Need-returns-2
 returns-2 c =
@@ -55,13 +37,7 @@ spread-requires c κs =
     numbers-within (a .plan .nodes) (a .plan .sensors) (a .line .now) (read-told (a .plan .nodes) (a .plan .sensors) (a .line .now) vs (c .before .before .mask .given .1) (c .before .before .before .before .read-line .ensures)) .small
 
 -- src/step.rt:159:9
-sub-advance : tie.Need-sub-advance
-sub-advance c = search needs
-
 -- src/step.rt:159:9
-part-advance-start : tie.Need-part-advance-start
-part-advance-start c = search needs
-
 -- src/step.rt:159:9
 part-advance-end : tie.Need-part-advance-end
 part-advance-end c =
@@ -80,13 +56,7 @@ advance-requires c κs =
     (q .0, q .1, rw z (w .count), ap length (c .before .before .before .before .before .before .spread .ensures) ∙ length-replicate _ _ ∙ q .2, q .3)
 
 -- src/step.rt:129:1
-same-length : tie.Need-same-length
-same-length c = search needs
-
 -- src/step.rt:129:1
-same-length-2 : tie.Need-same-length-2
-same-length-2 c = search needs
-
 -- src/step.rt:129:1
 returns-3 : tie.Need-returns-3
 returns-3 c =
@@ -101,18 +71,18 @@ pub line-spec : {M : Type 1} → statement M
 line-spec =
     tie.close
     (tie.spec
-    refused-requires
+    (λ c κs. search needs)
     returns
     read-line-requires
-    enum-known-mask
-    enum-told
-    refused-requires-2
+    (λ c. search needs)
+    (λ c. search needs)
+    (λ c κs. search needs)
     returns-2
     spread-requires
-    sub-advance
-    part-advance-start
+    (λ c. search needs)
+    (λ c. search needs)
     part-advance-end
     advance-requires
-    same-length
-    same-length-2
+    (λ c. search needs)
+    (λ c. search needs)
     returns-3)

@@ -15,14 +15,6 @@ use Rattle.listing.proofs.StepLaws.{faults-front, part-begins, part-end
 use Rattle.listing.proofs.RunLaws.{Ran, ran-none, ran-length, ran-more, ran-refused, ran-ended, stopped-refused, stopped-ended, block-room, one-more, line-bytes, faults-kept}
 use Rattle.listing.proofs.step.lines.Statement.{statement}
 use Rattle.listing.proofs.step.lines.Tie as tie
-use Rattle.listing.proofs.step.lines.Reads as reads
-use Rattle.listing.proofs.step.lines.Lts as lts
-use Rattle.listing.proofs.step.faults_size.Reads as faults-size-reads
-use Rattle.listing.proofs.step.line.Reads as line-reads
-use Rattle.listing.proofs.step.line_size.Reads as line-size-reads
-use Rattle.listing.proofs.step.part_end.Reads as part-end-reads
-use Rattle.listing.proofs.step.printed_size.Reads as printed-size-reads
-use Rattle.listing.proofs.step.stopped.Reads as stopped-reads
 
 abbrev Inv-loop : tie.InvT-loop
 Inv-loop rest out₀ plan period system₀ single₀ first size width len need faults₀ k₀ at₀ to₀ out system single faults k at to =
@@ -133,9 +125,6 @@ add-stopped : tie.Need-add-stopped Inv-loop μ-loop
 add-stopped c = omega (arith, c .before .before .before .before .before .before .before .before .before .before .before .loop .inv .4 .few)
 
 -- src/step.rt:230:13
-stopped-requires : tie.Need-stopped-requires Inv-loop μ-loop
-stopped-requires c κs = search needs
-
 -- src/step.rt:230:13
 same-length : tie.Need-same-length Inv-loop μ-loop
 same-length c =
@@ -201,9 +190,6 @@ add-stopped-2 : tie.Need-add-stopped-2 Inv-loop μ-loop
 add-stopped-2 c = omega (arith, c .before .loop .inv .4 .few)
 
 -- src/step.rt:246:5
-stopped-requires-2 : tie.Need-stopped-requires-2 Inv-loop μ-loop
-stopped-requires-2 c κs = search needs
-
 -- src/step.rt:200:1
 same-length-2 : tie.Need-same-length-2 Inv-loop μ-loop
 same-length-2 c =
@@ -248,7 +234,7 @@ lines-spec =
     add-t35
     add-t36
     add-stopped
-    stopped-requires
+    (λ c κs. search needs)
     same-length
     returns
     add-k
@@ -257,6 +243,6 @@ lines-spec =
     loop-less
     loop-again
     add-stopped-2
-    stopped-requires-2
+    (λ c κs. search needs)
     same-length-2
     returns-2)

@@ -3,34 +3,13 @@ use borrow.Author.Needs.{needs}
 use Rattle.listing.proofs.WritingLaws.{put-placed}
 use Rattle.listing.proofs.step.put.Statement.{statement}
 use Rattle.listing.proofs.step.put.Tie as tie
-use Rattle.listing.proofs.step.put.Reads as reads
-use Rattle.listing.proofs.step.put.Lts as lts
-use Rattle.column.proofs.write.Reads as write-reads
 
 -- src/writing.rt:20:32
-add-write : tie.Need-add-write
-add-write c = search needs
-
 -- src/writing.rt:20:19
-sub-write : tie.Need-sub-write
-sub-write c = search needs
-
 -- src/writing.rt:20:19
-part-write-start : tie.Need-part-write-start
-part-write-start c = search needs
-
 -- src/writing.rt:20:19
-part-write-end : tie.Need-part-write-end
-part-write-end c = search needs
-
 -- src/writing.rt:20:5
-write-requires : tie.Need-write-requires
-write-requires c κs = search needs
-
 -- src/writing.rt:16:1
-same-length : tie.Need-same-length
-same-length c = search needs
-
 -- src/writing.rt:16:1
 returns : tie.Need-returns
 returns c =
@@ -41,10 +20,10 @@ pub put-spec : {M : Type 1} → statement M
 put-spec =
     tie.close
     (tie.spec
-    add-write
-    sub-write
-    part-write-start
-    part-write-end
-    write-requires
-    same-length
+    (λ c. search needs)
+    (λ c. search needs)
+    (λ c. search needs)
+    (λ c. search needs)
+    (λ c κs. search needs)
+    (λ c. search needs)
     returns)

@@ -9,9 +9,6 @@ use Rattle.listing.specs.Line.{planesAt}
 use Rattle.listing.proofs.WritingLaws.{planeColumns, columns-none, columns-size, columns-more, columns-ended}
 use Rattle.listing.proofs.step.put_planes.Statement.{statement}
 use Rattle.listing.proofs.step.put_planes.Tie as tie
-use Rattle.listing.proofs.step.put_planes.Reads as reads
-use Rattle.listing.proofs.step.put_planes.Lts as lts
-use Rattle.listing.proofs.step.put.Reads as put-reads
 
 abbrev Inv-loop : tie.InvT-loop
 Inv-loop out₀ planes count a₀ out a = (a ≤ count) × (out ≡ placed out₀ planesAt (planeColumns (λ k. getD planes k 0) a))
@@ -24,21 +21,9 @@ loop-holds : tie.Need-loop-holds Inv-loop μ-loop
 loop-holds c = (search needs, columns-none (λ k. getD (c .before .args .planes .now) k 0) (c .before .args .out .now))
 
 -- src/writing.rt:30:23
-mul-put : tie.Need-mul-put Inv-loop μ-loop
-mul-put c = search needs
-
 -- src/writing.rt:30:18
-add-put : tie.Need-add-put Inv-loop μ-loop
-add-put c = search needs
-
 -- src/writing.rt:30:35
-mul-put-2 : tie.Need-mul-put-2 Inv-loop μ-loop
-mul-put-2 c = search needs
-
 -- src/writing.rt:30:35
-element-copy-out-put : tie.Need-element-copy-out-put Inv-loop μ-loop
-element-copy-out-put c = search needs
-
 -- src/writing.rt:30:9
 put-requires : tie.Need-put-requires Inv-loop μ-loop
 put-requires c κs =
@@ -46,13 +31,7 @@ put-requires c κs =
     (omega (arith, columns-size v (c .before .before .before .before .before .args .out .now) (c .before .before .before .loop .out) (c .before .before .before .loop .a) (c .before .before .before .loop .inv .1) (omega (arith, c .before .before .before .before .before .pre)), c .before .before .before .before .before .pre), omega arith, omega (arith, c .before .before .before .before .before .pre))
 
 -- src/writing.rt:31:9
-add-a : tie.Need-add-a Inv-loop μ-loop
-add-a c = search needs
-
 -- src/writing.rt:29:5
-loop-less : tie.Need-loop-less Inv-loop μ-loop
-loop-less c = search needs
-
 -- src/writing.rt:29:5
 loop-again : tie.Need-loop-again Inv-loop μ-loop
 loop-again c =
@@ -60,13 +39,7 @@ loop-again c =
     (search needs, columns-more v (c .before .before .before .before .before .before .before .before .args .out .now) (c .before .before .before .before .before .before .loop .out) (c .before .before .before .before .before .before .loop .a) (c .before .before .before .before .before .before .loop .inv .1) (omega (arith, c .before .before .before .before .before .before .before .before .pre)) (c .before .before .put .ensures))
 
 -- src/writing.rt:33:14
-mul-out : tie.Need-mul-out Inv-loop μ-loop
-mul-out c = search needs
-
 -- src/writing.rt:33:9
-add-out : tie.Need-add-out Inv-loop μ-loop
-add-out c = search needs
-
 -- src/writing.rt:33:5
 slice-write-out : tie.Need-slice-write-out Inv-loop μ-loop
 slice-write-out c =
@@ -93,16 +66,16 @@ put-planes-spec =
     Inv-loop
     μ-loop
     loop-holds
-    mul-put
-    add-put
-    mul-put-2
-    element-copy-out-put
+    (λ c. search needs)
+    (λ c. search needs)
+    (λ c. search needs)
+    (λ c. search needs)
     put-requires
-    add-a
-    loop-less
+    (λ c. search needs)
+    (λ c. search needs)
     loop-again
-    mul-out
-    add-out
+    (λ c. search needs)
+    (λ c. search needs)
     slice-write-out
     same-length
     returns)

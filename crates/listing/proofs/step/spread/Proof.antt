@@ -8,8 +8,6 @@ use borrow.Author.Needs.{needs}
 use Rattle.listing.proofs.StepLaws.{spread-size, spread-more, spread-all}
 use Rattle.listing.proofs.step.spread.Statement.{statement}
 use Rattle.listing.proofs.step.spread.Tie as tie
-use Rattle.listing.proofs.step.spread.Reads as reads
-use Rattle.listing.proofs.step.spread.Lts as lts
 
 abbrev Inv-loop : tie.InvT-loop
 Inv-loop bytes₀ x n b i₀ bytes i = (i ≤ n) × (bytes ≡ replicate i x ++ drop i bytes₀)
@@ -18,9 +16,6 @@ abbrev μ-loop : tie.MeasureT-loop
 μ-loop bytes₀ x n b i₀ bytes i = n - i
 
 -- src/step.rt:73:13
-cast-b : tie.Need-cast-b Inv-loop μ-loop
-cast-b c = search needs
-
 -- src/step.rt:75:5
 loop-holds : tie.Need-loop-holds Inv-loop μ-loop
 loop-holds c = (search needs, refl)
@@ -30,13 +25,7 @@ slice-write-bytes : tie.Need-slice-write-bytes Inv-loop μ-loop
 slice-write-bytes c = omega (arith, spread-size (c .before .before .args .bytes .now) (c .before .loop .bytes) (c .before .loop .i) (c .before .before .args .x) (c .before .loop .inv .1) (omega (arith, c .before .loop .inv .0)))
 
 -- src/step.rt:77:9
-add-i : tie.Need-add-i Inv-loop μ-loop
-add-i c = search needs
-
 -- src/step.rt:75:5
-loop-less : tie.Need-loop-less Inv-loop μ-loop
-loop-less c = search needs
-
 -- src/step.rt:75:5
 loop-again : tie.Need-loop-again Inv-loop μ-loop
 loop-again c = (search needs, spread-more (c .before .before .args .bytes .now) (c .before .loop .bytes) (c .before .loop .i) (c .before .before .args .x) (c .before .loop .inv .1) (omega arith))
@@ -55,11 +44,11 @@ spread-spec =
     (tie.spec
     Inv-loop
     μ-loop
-    cast-b
+    (λ c. search needs)
     loop-holds
     slice-write-bytes
-    add-i
-    loop-less
+    (λ c. search needs)
+    (λ c. search needs)
     loop-again
     same-length
     returns)

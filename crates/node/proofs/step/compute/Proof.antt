@@ -1,11 +1,11 @@
 -- `node::step::compute` meets its contract: the loop has run the tasks of the frame among the first k.
 use mathlib.Core.Path.{_≡_, _∙_}
 use mathlib.Core.Logic.{⊎-elim}
-use Prim.Native.Nat.{_+_, _-_, _%_, _≤_}
+use Prim.Native.Nat.{_+_, _-_, _%_, _≤_, _<_}
 use native.Mathlib.Omega.{arith}
 use native.Mathlib.Nat.{mod-lt}
 use borrow.Author.Needs.{needs}
-use Rattle.plan.specs.Limits.{mostTasks}
+use Rattle.plan.specs.Limits.{mostFrames, mostTasks}
 use Rattle.plan.proofs.AcceptedLaws.{shape-of-accepted}
 use Rattle.node.specs.Task.{runTasks}
 use Rattle.node.proofs.StepLaws.{tasks-none, tasks-hit, tasks-miss, tasks-later, tasks-end, computed-is}
@@ -14,7 +14,7 @@ use Rattle.node.proofs.step.compute.Tie as tie
 
 abbrev Inv-loop : tie.InvT-loop
 Inv-loop sensors plan frames count counter g cells₀ k₀ cells k =
-    (k ≤ count) × (count ≤ mostTasks) × (cells ≡ runTasks plan g sensors k cells₀)
+    (k ≤ count) × (count ≤ mostTasks) × (cells ≡ runTasks plan g sensors k cells₀) × (frames ≤ mostFrames) × (g < frames) × ((g + 1) % frames < frames)
 
 abbrev μ-loop : tie.MeasureT-loop
 μ-loop sensors plan frames count counter g cells₀ k₀ cells k = count - k
@@ -23,7 +23,9 @@ rem-g : tie.Need-rem-g Inv-loop μ-loop
 rem-g c = shape-of-accepted _ (c .before .before .pre .0) .frames-pos
 
 loop-holds : tie.Need-loop-holds Inv-loop μ-loop
-loop-holds c = (search needs, shape-of-accepted _ (c .before .before .before .pre .0) .tasks-le, tasks-none _ _ _ _)
+loop-holds c =
+    let s = shape-of-accepted _ (c .before .before .before .pre .0) in
+    (search needs, s .tasks-le, tasks-none _ _ _ _, s .frames-le, mod-lt _ (s .frames-pos), mod-lt _ (s .frames-pos))
 
 run-task-requires : tie.Need-run-task-requires Inv-loop μ-loop
 run-task-requires c κs =
@@ -34,25 +36,9 @@ loop-again : tie.Need-loop-again Inv-loop μ-loop
 loop-again c =
     let l = c .before .before .before .loop in
     ⊎-elim
-    (λ w. (search needs, search needs, tasks-hit _ _ _ _ (l .k) (w .0 .taken) (l .inv .2) (w .4 ∙ w .3 .ensures)))
-    (λ w. (search needs, search needs, w .1 ∙ tasks-miss _ _ _ _ (l .k) (w .0 .left) (l .inv .2)))
+    (λ w. (search needs, search needs, tasks-hit _ _ _ _ (l .k) (w .0 .taken) (l .inv .2) (w .4 ∙ w .3 .ensures), l .inv .3, l .inv .4, l .inv .5))
+    (λ w. (search needs, search needs, w .1 ∙ tasks-miss _ _ _ _ (l .k) (w .0 .left) (l .inv .2), l .inv .3, l .inv .4, l .inv .5))
     (c .if2 .came)
-
-add-next : tie.Need-add-next Inv-loop μ-loop
-add-next c =
-    let s = shape-of-accepted (c .before .before .before .before .before .args .t1) (c .before .before .before .before .before .pre .0) in
-    omega (arith, s .frames-le, mod-lt (c .before .before .before .before .before .args .memory .counter) (s .frames-pos))
-
-rem-next : tie.Need-rem-next Inv-loop μ-loop
-rem-next c =
-    let s = shape-of-accepted _ (c .before .before .before .before .before .pre .0) in
-    search needs
-
-cast-next : tie.Need-cast-next Inv-loop μ-loop
-cast-next c =
-    let a = c .before .before .before .before .before .args in
-    let s = shape-of-accepted (a .t1) (c .before .before .before .before .before .pre .0) in
-    omega (arith, s .frames-le, mod-lt (a .memory .counter % a .t1 .frames + 1) (s .frames-pos))
 
 returns : tie.Need-returns Inv-loop μ-loop
 returns c =
@@ -78,7 +64,7 @@ compute-spec =
     (λ c. search needs)
     (λ c. search needs)
     loop-again
-    add-next
-    rem-next
-    cast-next
+    (λ c. search needs)
+    (λ c. search needs)
+    (λ c. search needs)
     returns)
