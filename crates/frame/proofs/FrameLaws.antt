@@ -29,9 +29,9 @@ use Rattle.system.specs.declared.System.{System}
 use Rattle.system.specs.Fault.{faultAt, faultMemory, faultSetpoint}
 use Rattle.system.specs.Plane.{plane}
 use Rattle.system.specs.Frame.{computedBy, heard, mailboxOf, memoryAfter, putOut, goodAfter, systemAfter, placeAfter}
-use Rattle.frame.specs.Mail.{patched, after}
-use Rattle.frame.proofs.StepLaws.{block-small, plane-same}
-use Rattle.frame.proofs.MailLaws.{bin-of}
+use Rattle.exchange.specs.Mail.{patched, after}
+use Rattle.exchange.proofs.StepLaws.{block-small, plane-same}
+use Rattle.exchange.proofs.MailLaws.{bin-of}
 
 -- ---- sizes
 

@@ -1,5 +1,2 @@
-pub mod StepLaws
-pub mod MailLaws
 pub mod FrameLaws
 pub mod CallLaws
-pub mod GoodLaws

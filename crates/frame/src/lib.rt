@@ -33,7 +33,7 @@ fn lengths_ok(plan: Plan, sensors: usize, faults: usize, place: usize) -> bool
     let cells = plan.cells;
     let actuators = plan.actuators;
     (sensors == plan.sensors)
-        & (faults == nodes * step::fault_size(nodes, cells, actuators))
+        & (faults == nodes * exchange::step::fault_size(nodes, cells, actuators))
         & (place == actuators)
 }
 

@@ -16,7 +16,7 @@ use Rattle.column.specs.Row.{andThen, numbersFrom, numbersOf}
 use Rattle.column.specs.declared.Number.{Number}
 use Rattle.column.specs.declared.Number.the-variants.{Malformed}
 use Rattle.column.specs.Answers.{shown}
-use Rattle.frame.proofs.StepLaws.{mask-fits}
+use Rattle.exchange.proofs.StepLaws.{mask-fits}
 use Rattle.listing.specs.Line.{runWidths, inLimits, runNumbers}
 use Rattle.listing.specs.Step.{ifRead}
 

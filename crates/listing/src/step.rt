@@ -176,7 +176,7 @@ pub fn faults_size(nodes: usize, cells: usize, actuators: usize) -> usize
     requires { ⌜ (nodes ≤ mostNodes) × (cells ≤ mostCells) × (actuators ≤ mostActuators) ⌝ }
     ensures { λ r. ⌜ (r ≡ nodes * (cellAt cells + nodes * cellAt cells + patternSize * actuators)) × (r ≤ mostFaults) ⌝ }
 {
-    nodes * frame::step::fault_size(nodes, cells, actuators)
+    nodes * exchange::step::fault_size(nodes, cells, actuators)
 }
 
 // Where the part of `size` from a place on ends, in bytes of a length.

@@ -122,7 +122,7 @@ fn frame_often(
     let cells = plan.cells;
     let count = plan.sensors;
     let actuators = plan.actuators;
-    let block = frame::step::fault_size(nodes, cells, actuators);
+    let block = exchange::step::fault_size(nodes, cells, actuators);
     if sensors.len() != count {
         return 0;
     }
@@ -162,7 +162,7 @@ fn step_often(plan: Plan, what: u64, times: u64) -> u64 {
         return 0;
     }
     let size = node::step::message_size(cells);
-    let block = frame::step::fault_size(nodes, cells, actuators);
+    let block = exchange::step::fault_size(nodes, cells, actuators);
     let all = nodes * block;
     let end = nodes * size;
     let mut sensors = [0u64; Plan::SENSORS];

@@ -6,4 +6,3 @@ pub mod TaskLaws
 pub mod MessageLaws
 pub mod NodeLaws
 pub mod VoteLaws
-pub mod ShortTable

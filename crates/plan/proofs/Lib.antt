@@ -4,5 +4,4 @@ pub mod PeriodLaws
 pub mod WalkLaws
 pub mod WalkedLaws
 pub mod EntryLaws
-pub mod ShortTable
 pub mod AnswerLaws

@@ -5,5 +5,4 @@ pub mod FaultLaws
 pub mod FrameLaws
 pub mod StateLaws
 pub mod DemandLaws
-pub mod ShortTable
 pub mod NotEmpty

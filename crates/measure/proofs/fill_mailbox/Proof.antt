@@ -4,7 +4,7 @@ use Prim.Native.Nat.{_+_, _-_, _≤_, _<_}
 use native.Mathlib.Omega.{arith}
 use lib.ListN.{length}
 use borrow.Author.Needs.{needs}
-use Rattle.frame.proofs.MailLaws.{placed-length, part-back, part-length}
+use Rattle.exchange.proofs.MailLaws.{placed-length, part-back, part-length}
 use Rattle.measure.proofs.fill_mailbox.Statement.{statement}
 use Rattle.measure.proofs.fill_mailbox.Tie as tie
 

@@ -6,7 +6,7 @@ use lib.ListN.{length, length-set}
 use borrow.Author.Needs.{needs}
 use Rattle.plan.proofs.AnswerLaws.{accepted-period, accepted-of-period}
 use Rattle.plan.proofs.AcceptedLaws.{shape-of-accepted}
-use Rattle.frame.proofs.StepLaws.{faults-small}
+use Rattle.exchange.proofs.StepLaws.{faults-small}
 use Rattle.measure.proofs.frame_often.Statement.{statement}
 use Rattle.measure.proofs.frame_often.Tie as tie
 

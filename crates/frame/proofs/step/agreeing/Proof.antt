@@ -13,7 +13,7 @@ use Rattle.plan.specs.Limits.{mostNodes, mostCells}
 use Rattle.node.specs.declared.Memory.{Memory}
 use Rattle.node.specs.Node.{zeroMemory}
 use Rattle.system.specs.Frame.{sameMemory}
-use Rattle.frame.proofs.StepLaws.{length-mapped, memory-read, same, counted-hit, counted-miss, counted-all}
+use Rattle.exchange.proofs.StepLaws.{length-mapped, memory-read, same, counted-hit, counted-miss, counted-all}
 use Rattle.frame.proofs.step.agreeing.Statement.{statement}
 use Rattle.frame.proofs.step.agreeing.Tie as tie
 

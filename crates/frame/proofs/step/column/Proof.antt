@@ -7,7 +7,7 @@ use borrow.Author.Needs.{needs}
 use Rattle.array.proofs.PlacesLaws.{fill-none}
 use Rattle.array.specs.Index.{fill}
 use Rattle.plan.specs.Limits.{mostActuators}
-use Rattle.frame.proofs.StepLaws.{stored-next, stored-all}
+use Rattle.exchange.proofs.StepLaws.{stored-next, stored-all}
 use Rattle.frame.proofs.step.column.Statement.{statement}
 use Rattle.frame.proofs.step.column.Tie as tie
 

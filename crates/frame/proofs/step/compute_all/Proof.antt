@@ -14,7 +14,7 @@ use Rattle.node.specs.declared.Memory.{Memory}
 use Rattle.node.specs.Task.{runTasks}
 use Rattle.node.specs.Node.{zeroMemory, computed}
 use Rattle.node.proofs.StepLaws.{tasks-none, tasks-hit, tasks-miss, tasks-others, tasks-later, tasks-end, computed-is}
-use Rattle.frame.proofs.StepLaws.{stored-next, stored-all, stored-still, any-default, Skips, skips-none, skips-again, skips-few, skips-earlier}
+use Rattle.exchange.proofs.StepLaws.{stored-next, stored-all, stored-still, any-default, Skips, skips-none, skips-again, skips-few, skips-earlier}
 use Rattle.frame.proofs.step.compute_all.Statement.{statement}
 use Rattle.frame.proofs.step.compute_all.Tie as tie
 

@@ -1,7 +1,7 @@
 -- `frame::step::count_after` meets its contract: a way out for each case.
 use native.Mathlib.Omega.{arith}
 use borrow.Author.Needs.{needs}
-use Rattle.frame.proofs.StepLaws.{count-more, count-full}
+use Rattle.exchange.proofs.StepLaws.{count-more, count-full}
 use Rattle.frame.proofs.step.count_after.Statement.{statement}
 use Rattle.frame.proofs.step.count_after.Tie as tie
 

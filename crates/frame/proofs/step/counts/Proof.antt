@@ -8,7 +8,7 @@ use borrow.Author.Needs.{needs}
 use Rattle.array.proofs.PlacesLaws.{fill-none}
 use Rattle.array.specs.Index.{fill}
 use Rattle.array.specs.Bit.{bit}
-use Rattle.frame.proofs.StepLaws.{count-next, stored-all}
+use Rattle.exchange.proofs.StepLaws.{count-next, stored-all}
 use Rattle.frame.proofs.step.counts.Statement.{statement}
 use Rattle.frame.proofs.step.counts.Tie as tie
 

@@ -8,7 +8,7 @@ use lib.Dec.{leb}
 use borrow.Author.Needs.{needs}
 use Rattle.array.proofs.IndexLaws.{allBelow-none}
 use Rattle.array.specs.Index.{allBelow}
-use Rattle.frame.proofs.StepLaws.{counts-more, counts-fail, all-passed}
+use Rattle.exchange.proofs.StepLaws.{counts-more, counts-fail, all-passed}
 use Rattle.frame.proofs.step.counts_ok.Statement.{statement}
 use Rattle.frame.proofs.step.counts_ok.Tie as tie
 

@@ -7,8 +7,8 @@ use borrow.Author.Needs.{needs}
 use Rattle.plan.specs.Limits.{mostNodes}
 use Rattle.plan.proofs.AcceptedLaws.{shape-of-accepted}
 use Rattle.node.specs.Node.{zeroMemory}
-use Rattle.frame.proofs.StepLaws.{length-mapped}
-use Rattle.frame.proofs.MailLaws.{part-length}
+use Rattle.exchange.proofs.StepLaws.{length-mapped}
+use Rattle.exchange.proofs.MailLaws.{part-length}
 use Rattle.frame.proofs.FrameLaws.{period-small, box-small, messages-length, front-again, front-fits, after-front, system-is, place-is}
 use Rattle.frame.proofs.step.frame.Statement.{statement}
 use Rattle.frame.proofs.step.frame.Tie as tie

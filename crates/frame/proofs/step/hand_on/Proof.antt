@@ -8,7 +8,7 @@ use Rattle.array.proofs.PlacesLaws.{fill-none}
 use Rattle.array.specs.Index.{fill}
 use Rattle.plan.specs.Limits.{mostActuators}
 use Rattle.system.specs.Plane.{plane}
-use Rattle.frame.proofs.StepLaws.{column-at, stored-next, stored-all, plane-same}
+use Rattle.exchange.proofs.StepLaws.{column-at, stored-next, stored-all, plane-same}
 use Rattle.frame.proofs.step.hand_on.Statement.{statement}
 use Rattle.frame.proofs.step.hand_on.Tie as tie
 

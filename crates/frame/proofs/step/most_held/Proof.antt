@@ -7,7 +7,7 @@ use lib.ListN.{getD}
 use borrow.Author.Needs.{needs}
 use Rattle.node.specs.Majority.{holders}
 use Rattle.system.specs.Plane.{mostHeld}
-use Rattle.frame.proofs.StepLaws.{held-first, held-new, held-old, plane-is}
+use Rattle.exchange.proofs.StepLaws.{held-first, held-new, held-old, plane-is}
 use Rattle.frame.proofs.step.most_held.Statement.{statement}
 use Rattle.frame.proofs.step.most_held.Tie as tie
 

@@ -11,7 +11,7 @@ use Rattle.array.specs.Word.{be}
 use Rattle.plan.specs.Limits.{mostActuators}
 use Rattle.node.specs.Size.{patternSize}
 use Rattle.node.specs.Node.{setpoint}
-use Rattle.frame.proofs.StepLaws.{row-good, row-bad, stored-next}
+use Rattle.exchange.proofs.StepLaws.{row-good, row-bad, stored-next}
 use Rattle.frame.proofs.step.put_row.Statement.{statement}
 use Rattle.frame.proofs.step.put_row.Tie as tie
 

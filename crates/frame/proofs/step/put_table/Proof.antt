@@ -13,8 +13,8 @@ use Rattle.plan.specs.Limits.{mostNodes, mostActuators}
 use Rattle.node.specs.Size.{patternSize}
 use Rattle.node.specs.Node.{zeroMemory, setpoint}
 use Rattle.node.proofs.StepLaws.{lent}
-use Rattle.frame.proofs.StepLaws.{any-default, stored-all}
-use Rattle.frame.proofs.MailLaws.{part-length, setpoints-end, faults-few, size-is, block-is, put-same, put-lent, table-long, table-next}
+use Rattle.exchange.proofs.StepLaws.{any-default, stored-all}
+use Rattle.exchange.proofs.MailLaws.{part-length, setpoints-end, faults-few, size-is, block-is, put-same, put-lent, table-long, table-next}
 use Rattle.frame.proofs.step.put_table.Statement.{statement}
 use Rattle.frame.proofs.step.put_table.Tie as tie
 

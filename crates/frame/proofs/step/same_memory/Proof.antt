@@ -8,7 +8,7 @@ use lib.Dec.{eqb}
 use borrow.Author.Needs.{needs}
 use Rattle.array.proofs.IndexLaws.{allBelow-none}
 use Rattle.array.specs.Index.{allBelow}
-use Rattle.frame.proofs.StepLaws.{same-counter, same-cell, same-all, same-more}
+use Rattle.exchange.proofs.StepLaws.{same-counter, same-cell, same-all, same-more}
 use Rattle.frame.proofs.step.same_memory.Statement.{statement}
 use Rattle.frame.proofs.step.same_memory.Tie as tie
 

@@ -12,7 +12,7 @@ use Rattle.array.specs.Index.{howMany}
 use Rattle.array.specs.Bit.{bit}
 use Rattle.plan.proofs.AcceptedLaws.{shape-of-accepted}
 use Rattle.plan.specs.Limits.{mostNodes}
-use Rattle.frame.proofs.StepLaws.{working-all, works, counted-hit, counted-miss}
+use Rattle.exchange.proofs.StepLaws.{working-all, works, counted-hit, counted-miss}
 use Rattle.frame.proofs.step.working.Statement.{statement}
 use Rattle.frame.proofs.step.working.Tie as tie
 

@@ -8,7 +8,7 @@ use borrow.Author.Needs.{needs}
 use borrow.Author.Tests.{not-true, not-false}
 use Rattle.answer.specs.declared.Answer.the-variants.{Done, RunLine}
 use Rattle.plan.proofs.AcceptedLaws.{shape-of-accepted}
-use Rattle.frame.proofs.MailLaws.{part-length}
+use Rattle.exchange.proofs.MailLaws.{part-length}
 use Rattle.listing.specs.Line.{runLineSize, printedSize}
 use Rattle.listing.specs.Step.{mostFaults, printedWith}
 use Rattle.listing.proofs.StepLaws.{faults-front, part-begins, part-ends}

@@ -1,0 +1,453 @@
+-- Laws of bins in a buffer: a buffer by its bins, a part written into a buffer, and the bins after it.
+use mathlib.Core.Path.{_≡_, refl, sym, ap, _∙_, subst}
+use mathlib.Core.Bool.{Bool, true, false, cond}
+use mathlib.Core.List.{List, [], _∷_, _++_, append-assoc, append-nil}
+use Prim.Native.Nat.{ℕ, zero, suc, _+_, _-_, _*_, _/_, _%_, _≤_, _<_}
+use native.Mathlib.Omega.{arith}
+use native.Mathlib.Nat.{mul-le-mul-right, suc-mul, zero-mul, add-assoc, not-suc-le-zero}
+use lib.Dec.{eqb, ltb}
+use lib.ListN.{length, getD, take, drop, length-append, length-take, length-drop, take-append-drop, List·getD-append}
+use lib.Seq.{ext-getD, getD-at, getD-append-add, getD-take, getD-drop, length-take-le, take-at, drop-append-add, drop-drop}
+use borrow.Author.Tests.{ltb-true, ltb-false, eqb-true, eqb-false}
+use Rattle.array.specs.Index.{fill, joined, from}
+use Rattle.array.specs.Bit.{bit}
+use Rattle.array.specs.Word.{be, bytes}
+use Rattle.array.proofs.TestLaws.{split}
+use Rattle.array.proofs.PlacesLaws.{Holds, fill-length, fill-in, fill-same, joined-same, joined-holds, from-length}
+use Rattle.plan.specs.declared.Plan.{Plan}
+use Rattle.plan.specs.Limits.{mostNodes, mostActuators}
+use Rattle.node.specs.declared.Memory.{Memory}
+use Rattle.node.specs.Node.{before, counterIn, cellIn, votedCounter, votedCell, voted, setpoint, zeroMemory}
+use Rattle.plan.specs.Known.{votedIn}
+use Rattle.node.proofs.StepLaws.{lent}
+use Rattle.node.specs.Size.{counterSize, patternSize, cellAt, binSize, binAt}
+use Rattle.system.specs.Fault.{faultSize, faultAt, faultMemory, faultMessage, faultSetpoint}
+use Rattle.system.proofs.FaultLaws.{faultMessage-length}
+use Rattle.exchange.specs.Mail.{Small, Counts, allFaults, placed, patched, after}
+use Rattle.exchange.proofs.StepLaws.{faults-small}
+
+-- ---- the entries of a part
+
+module _ {A : Type 0} (d : A) where
+  -- entry i of the n from a place
+  pub from-at : (s : List A) (at n i : ℕ) → i < n → getD (from d s at n) i d ≡ getD s (at + i) d
+  unfolding from
+  from-at s at zero i l = absurd (omega arith)
+  from-at s at (suc n) i l =
+      split (eqb i n)
+      (λ t. rw (eqb-true i n t) (getD-at (from d s at n) (getD s (at + n) d) [] d n (from-length d s at n)))
+      (λ t.
+      let h : i < n = omega (arith, eqb-false i n t) in
+      List·getD-append (from d s at n) (getD s (at + n) d ∷ []) d i (omega (arith, from-length d s at n)) ∙ from-at s at n i h)
+
+  pub from-same : (s t : List A) (a b n : ℕ) → ((i : ℕ) → i < n → getD s (a + i) d ≡ getD t (b + i) d) → from d s a n ≡ from d t b n
+  unfolding from
+  from-same s t a b zero e = refl
+  from-same s t a b (suc n) e = rw (from-same s t a b n (λ i l. e i (omega arith)), e n (omega arith))
+
+  -- a list of n entries is the n entries from its start
+  pub from-all : (s : List A) (n : ℕ) → length s ≡ n → from d s 0 n ≡ s
+  from-all s n e =
+      ext-getD d (from d s 0 n) s (from-length d s 0 n ∙ sym e) (λ i l. from-at s 0 n i (omega (arith, from-length d s 0 n)) ∙ ap (λ (k : ℕ). getD s k d) (let z : 0 + i ≡ i = omega arith in z))
+
+  pub from-add : (s : List A) (at m n : ℕ) → from d s at (m + n) ≡ from d s at m ++ from d s (at + m) n
+  unfolding from
+  from-add s at m zero = let z : m + 0 ≡ m = omega arith in rw z (sym (append-nil (from d s at m)))
+  from-add s at m (suc n) =
+      let y : m + suc n ≡ suc (m + n) = omega arith in
+      let z : at + (m + n) ≡ at + m + n = omega arith in
+      rw (y, from-add s at m n, z) (append-assoc (from d s at m) (from d s (at + m) n) (getD s (at + m + n) d ∷ []))
+
+  -- what a list holds at a place
+  pub from-held : {s : List A} {at : ℕ} {t : List A} (n : ℕ) → length t ≡ n → Holds s at t → from d s at n ≡ t
+  from-held {s} {at} {t} n e h =
+      ext-getD d (from d s at n) t (from-length d s at n ∙ sym e) (λ i l. let k : i < n = omega (arith, from-length d s at n) in from-at s at n i k ∙ entry i k)
+    where
+      entry : (i : ℕ) → i < n → getD s (at + i) d ≡ getD t i d
+      entry i l =
+          rw (← h .size)
+          (ap (λ (x : List A). getD x (length (h .front) + i) d) (h .whole)
+          ∙ getD-append-add (h .front) (t ++ h .back) i d
+          ∙ List·getD-append t (h .back) d i (omega arith))
+
+  -- ---- a list of n bins of one size
+
+  module _ (w : ℕ) where
+    pub bins-front : (s : List A) (n : ℕ) → joined (λ j. from d s (j * w) w) n ≡ from d s 0 (n * w)
+    unfolding joined from
+    bins-front s zero = rw (zero-mul w)
+    bins-front s (suc n) = let z : 0 + n * w ≡ n * w = omega arith in rw (bins-front s n, suc-mul n w, from-add s 0 (n * w) w, z)
+
+    pub bins-all : (s : List A) (n : ℕ) → length s ≡ n * w → s ≡ joined (λ j. from d s (j * w) w) n
+    bins-all s n e = sym (bins-front s n ∙ from-all s (n * w) e)
+
+    -- a buffer whose bins are known
+    pub bins-are : (s : List A) (n : ℕ) (f : ℕ → List A) → length s ≡ n * w → ((j : ℕ) → j < n → from d s (j * w) w ≡ f j) → s ≡ joined f n
+    bins-are s n f e h = bins-all s n e ∙ joined-same _ f n h
+
+    pub bin-of : (f : ℕ → List A) (n j : ℕ) → ((j : ℕ) → length (f j) ≡ w) → j < n → from d (joined f n) (j * w) w ≡ f j
+    bin-of f n j e l = from-held w (e j) (joined-holds f w e n j l)
+
+-- ---- a part written into a buffer
+
+module _ (s t : List ℕ) (at : ℕ) (fits : at + length t ≤ length s) where
+  front-length : length (take at s) ≡ at
+  front-length = length-take-le at s (omega arith)
+
+  pub placed-length : length (placed s at t) ≡ length s
+  placed-length = simp (length-append, length-take, length-drop) (omega arith)
+
+  pub placed-in : (i : ℕ) → i < length t → getD (placed s at t) (at + i) 0 ≡ getD t i 0
+  placed-in i l =
+      subst (λ (n : ℕ). getD (placed s at t) (n + i) 0 ≡ getD t i 0) front-length
+      (getD-append-add (take at s) (t ++ drop (at + length t) s) i 0 ∙ List·getD-append t (drop (at + length t) s) 0 i l)
+
+  pub placed-before : (i : ℕ) → i < at → getD (placed s at t) i 0 ≡ getD s i 0
+  placed-before i l =
+      List·getD-append (take at s) (t ++ drop (at + length t) s) 0 i (omega (arith, front-length)) ∙ getD-take at s i 0 l
+
+  pub placed-after : (i : ℕ) → getD (placed s at t) (at + length t + i) 0 ≡ getD s (at + length t + i) 0
+  placed-after i =
+      let head : length (take at s ++ t) ≡ at + length t = length-append (take at s) t ∙ rw front-length in
+      rw (← append-assoc (take at s) t (drop (at + length t) s))
+      (subst (λ (n : ℕ). getD ((take at s ++ t) ++ drop (at + length t) s) (n + i) 0 ≡ getD s (at + length t + i) 0) head
+      (getD-append-add (take at s ++ t) (drop (at + length t) s) i 0 ∙ getD-drop (at + length t) s i 0))
+
+-- a part, and one more behind it
+pub placed-more :
+    (s t u : List ℕ) (at : ℕ) → at + length t + length u ≤ length s →
+    placed (placed s at t) (at + length t) u ≡ placed s at (t ++ u)
+placed-more s t u at fits =
+    rw (front, back, length-append t u, ← add-assoc at (length t) (length u)) (simp append-assoc)
+  where
+    head : length (take at s ++ t) ≡ at + length t
+    head = length-append (take at s) t ∙ rw (length-take-le at s (omega arith))
+
+    front : take (at + length t) (placed s at t) ≡ take at s ++ t
+    front = rw (← append-assoc (take at s) t (drop (at + length t) s)) (take-at (take at s ++ t) (drop (at + length t) s) (at + length t) head)
+
+    back : drop (at + length t + length u) (placed s at t) ≡ drop (at + length t + length u) s
+    back =
+        rw (← append-assoc (take at s) t (drop (at + length t) s))
+        (subst (λ (n : ℕ). drop (n + length u) ((take at s ++ t) ++ drop (at + length t) s) ≡ drop (at + length t + length u) s) head
+        (drop-append-add (take at s ++ t) (drop (at + length t) s) (length u) ∙ drop-drop (length u) (at + length t) s))
+
+-- ---- a bin of words, copied
+
+-- the bytes of a number read from bytes are those bytes
+pub bytes-of-be : (n : ℕ) (s : List ℕ) (at : ℕ) → ((i : ℕ) → getD s i 0 < 256) → bytes n (be n s at) ≡ from 0 s at n
+unfolding bytes be from
+bytes-of-be zero s at b = refl
+bytes-of-be (suc n) s at b =
+    let h : (be n s at * 256 + getD s (at + n) 0) / 256 ≡ be n s at = omega (arith, b (at + n)) in
+    let l : (be n s at * 256 + getD s (at + n) 0) % 256 ≡ getD s (at + n) 0 = omega (arith, b (at + n)) in
+    rw (h, l, bytes-of-be n s at b)
+
+-- what a write leaves
+written :
+    (s t u : List ℕ) (at n : ℕ) {next : List ℕ} → u ≡ t → length t ≡ n →
+    next ≡ take at s ++ (u ++ drop (at + n) s) →
+    next ≡ placed s at t
+written s t u at n e l h = h ∙ rw (e, ← l)
+
+module _ (source : List ℕ) (at : ℕ) (bins : List ℕ) (to : ℕ) (byte : (i : ℕ) → getD source i 0 < 256) where
+  pub copied-none : bins ≡ placed bins to (from 0 source at (patternSize * 0))
+  unfolding from
+  copied-none = let z : to + 0 ≡ to = omega arith in rw z (sym (take-append-drop to bins))
+
+  pub copied-more :
+      (c : ℕ) {x t a : ℕ} {now next : List ℕ} →
+      t ≡ to + patternSize * c →
+      a ≡ at + patternSize * c →
+      to + patternSize * c + patternSize ≤ length bins →
+      now ≡ placed bins to (from 0 source at (patternSize * c)) →
+      x ≡ be patternSize source a →
+      next ≡ take t now ++ (bytes patternSize x ++ drop (t + patternSize) now) →
+      next ≡ placed bins to (from 0 source at (patternSize * (c + 1)))
+  copied-more c {x} {t} {a} {now} {next} zt za l n e h =
+      let p : List ℕ = from 0 source at (patternSize * c) in
+      let u : List ℕ = from 0 source (at + patternSize * c) patternSize in
+      let pl : length p ≡ patternSize * c = from-length 0 source at (patternSize * c) in
+      let ul : length u ≡ patternSize = from-length 0 source (at + patternSize * c) patternSize in
+      let word : bytes patternSize x ≡ u = ap (bytes patternSize) (e ∙ ap (be patternSize source) za) ∙ bytes-of-be patternSize source (at + patternSize * c) byte in
+      let put : next ≡ placed now (to + patternSize * c) u = subst (λ (k : ℕ). next ≡ placed now k u) zt (written now u (bytes patternSize x) t patternSize word ul h) in
+      let whole : placed (placed bins to p) (to + length p) u ≡ placed bins to (p ++ u) = placed-more bins p u to (omega arith) in
+      let longer : p ++ u ≡ from 0 source at (patternSize * (c + 1)) = sym (from-add 0 source at (patternSize * c) patternSize) ∙ ap (from 0 source at) (let z : patternSize * c + patternSize ≡ patternSize * (c + 1) = omega arith in z) in
+      put ∙ rw n (subst (λ (k : ℕ). placed (placed bins to p) (to + k) u ≡ placed bins to (p ++ u)) pl whole) ∙ ap (placed bins to) longer
+
+  -- a counter and the cells behind it
+  pub copied-all :
+      (c cells : ℕ) {x : ℕ} {now next : List ℕ} →
+      c ≡ cells →
+      to + cellAt cells ≤ length bins →
+      x ≡ be counterSize source at →
+      now ≡ take to bins ++ (bytes counterSize x ++ drop (to + counterSize) bins) →
+      next ≡ placed now (to + counterSize) (from 0 source (at + counterSize) (patternSize * c)) →
+      next ≡ placed bins to (from 0 source at (cellAt cells))
+  copied-all c cells {x} {now} {next} e l ex hn h =
+      let p : List ℕ = from 0 source at counterSize in
+      let u : List ℕ = from 0 source (at + counterSize) (patternSize * cells) in
+      let pl : length p ≡ counterSize = from-length 0 source at counterSize in
+      let ul : length u ≡ patternSize * cells = from-length 0 source (at + counterSize) (patternSize * cells) in
+      let first : now ≡ placed bins to p = written bins p (bytes counterSize x) to counterSize (ap (bytes counterSize) ex ∙ bytes-of-be counterSize source at byte) pl hn in
+      let whole : placed (placed bins to p) (to + length p) u ≡ placed bins to (p ++ u) = placed-more bins p u to (omega arith) in
+      h ∙ rw (e, first) (subst (λ (k : ℕ). placed (placed bins to p) (to + k) u ≡ placed bins to (p ++ u)) pl whole)
+      ∙ ap (placed bins to) (sym (from-add 0 source at counterSize (patternSize * cells)))
+
+-- ---- the bins after one is written
+
+module _ (bins t : List ℕ) (w n j : ℕ) (tl : length t ≡ w) (l : j < n) (long : length bins ≡ n * w) {next : List ℕ} (e : next ≡ placed bins (j * w) t) where
+  bin-ends : (k : ℕ) → k < n → k * w + w ≤ n * w
+  bin-ends k h = let m : suc k * w ≤ n * w = mul-le-mul-right w h in omega (arith, suc-mul k w)
+
+  fits : j * w + length t ≤ length bins
+  fits = omega (arith, bin-ends j l)
+
+  pub written-length : length next ≡ length bins
+  written-length = ap length e ∙ placed-length bins t (j * w) fits
+
+  pub written-bin : from 0 next (j * w) w ≡ t
+  written-bin =
+      ext-getD 0 (from 0 next (j * w) w) t (from-length 0 next (j * w) w ∙ sym tl)
+      (λ i h.
+      let k : i < w = omega (arith, from-length 0 next (j * w) w) in
+      from-at 0 next (j * w) w i k ∙ rw e (placed-in bins t (j * w) fits i (omega arith)))
+
+  pub written-other : (k : ℕ) → (k ≡ j → ⊥) → from 0 next (k * w) w ≡ from 0 bins (k * w) w
+  written-other k o = from-same 0 next bins (k * w) (k * w) w (λ i h. rw e (entry i h))
+    where
+      entry : (i : ℕ) → i < w → getD (placed bins (j * w) t) (k * w + i) 0 ≡ getD bins (k * w + i) 0
+      entry i h =
+          split (ltb k j)
+          (λ b.
+          let m : suc k * w ≤ j * w = mul-le-mul-right w (ltb-true k j b) in
+          placed-before bins t (j * w) fits (k * w + i) (omega (arith, suc-mul k w)))
+          (λ b.
+          let m : suc j * w ≤ k * w = mul-le-mul-right w (omega (arith, ltb-false k j b)) in
+          let z : j * w + length t + (k * w + i - (j * w + length t)) ≡ k * w + i = omega (arith, suc-mul j w) in
+          subst (λ (x : ℕ). getD (placed bins (j * w) t) x 0 ≡ getD bins x 0) z
+          (placed-after bins t (j * w) fits (k * w + i - (j * w + length t))))
+
+-- ---- bins patched for a receiver
+
+module _ (want : ℕ → List ℕ) (start : List ℕ) (n w : ℕ) where
+  -- the first j bins are as wanted, the others as at the start
+  pub record Patching (j : ℕ) (bins : List ℕ) : Type 0 where
+    pub long : length bins ≡ n * w
+    pub done : (k : ℕ) → k < j → from 0 bins (k * w) w ≡ want k
+    pub rest : (k : ℕ) → j ≤ k → k < n → from 0 bins (k * w) w ≡ from 0 start (k * w) w
+
+  pub patching-none : length start ≡ n * w → Patching 0 start
+  patching-none e = record { long = e; done = λ k l. absurd (not-suc-le-zero l); rest = λ k l m. refl }
+
+  module _ (j : ℕ) (bins : List ℕ) (h : Patching j bins) (l : j < n) where
+    pub patching-kept : from 0 start (j * w) w ≡ want j → Patching (j + 1) bins
+    patching-kept e =
+        record {
+          long = h .long;
+          done = λ k m. split (eqb k j) (λ t. rw (eqb-true k j t) (h .rest j (omega arith) l ∙ e)) (λ t. h .done k (omega (arith, eqb-false k j t)));
+          rest = λ k m. h .rest k (omega arith);
+        }
+
+    pub patching-written : (t : List ℕ) {next : List ℕ} → length t ≡ w → t ≡ want j → next ≡ placed bins (j * w) t → Patching (j + 1) next
+    patching-written t {next} tl e p =
+        record {
+          long = written-length bins t w n j tl l (h .long) p ∙ h .long;
+          done = λ k m. split (eqb k j)
+              (λ q. rw (eqb-true k j q) (written-bin bins t w n j tl l (h .long) p ∙ e))
+              (λ q. written-other bins t w n j tl l (h .long) p k (eqb-false k j q) ∙ h .done k (omega (arith, eqb-false k j q)));
+          rest = λ k m o. written-other bins t w n j tl l (h .long) p k (omega arith) ∙ h .rest k (omega arith) o;
+        }
+
+  pub patching-all : (j : ℕ) (bins : List ℕ) → Patching j bins → j ≡ n → bins ≡ joined want n
+  patching-all j bins h e = bins-are 0 w bins n want (h .long) (λ k l. h .done k (omega arith))
+
+-- ---- a part that is lent and comes back
+
+pub part-back : (s t part : List ℕ) (at k : ℕ) → part ≡ t → length t ≡ k → take at s ++ (part ++ drop k (drop at s)) ≡ placed s at t
+part-back s t part at k e l = rw (drop-drop k at s, e, ← l)
+
+pub part-length : (s : List ℕ) (at k e : ℕ) → k ≡ e → at + k ≤ length s → length (take k (drop at s)) ≡ e
+part-length s at k e z l = length-take-le k (drop at s) (rw length-drop (omega arith)) ∙ z
+
+-- ---- places in the fault bytes
+
+module _ (nodes cells actuators size block : ℕ) (es : size ≡ cellAt cells) (eb : block ≡ cellAt cells + nodes * cellAt cells + patternSize * actuators) where
+  block-parts : block ≡ size + nodes * size + patternSize * actuators
+  block-parts = rw es eb
+
+  module _ (faults : List ℕ) (el : length faults ≡ allFaults nodes cells actuators) where
+    faults-long : length faults ≡ nodes * block
+    faults-long = el ∙ rw eb
+
+    block-ends : (j : ℕ) → j < nodes → j * block + block ≤ length faults
+    block-ends j l =
+        let h : suc j * block ≤ nodes * block = mul-le-mul-right block l in
+        omega (arith, suc-mul j block, faults-long)
+
+    pub memory-ends : (j : ℕ) → j < nodes → j * block + size ≤ length faults
+    memory-ends j l = omega (arith, block-ends j l, block-parts)
+
+    pub message-ends : (j i : ℕ) → j < nodes → i < nodes → j * block + size + i * size + size ≤ length faults
+    message-ends j i l m =
+        let h : suc i * size ≤ nodes * size = mul-le-mul-right size m in
+        omega (arith, block-ends j l, block-parts, suc-mul i size)
+
+    pub setpoints-end : (j : ℕ) → j < nodes → j * block + size + nodes * size + patternSize * actuators ≤ length faults
+    setpoints-end j l = omega (arith, block-ends j l, block-parts)
+
+    pub faults-few : Small nodes cells actuators → length faults ≤ 14896
+    faults-few s = omega (arith, faults-long, faults-small nodes cells actuators (s .0) (s .1) (s .2) block eb)
+
+-- ---- sizes by what is lent of a plan
+
+module _ (p : Plan) {nodes cells actuators : ℕ} (h : Counts p nodes cells actuators) where
+  pub size-is : {size : ℕ} → size ≡ cellAt cells → size ≡ binSize p
+  size-is e = e ∙ rw (h .1)
+
+  pub block-is : {block : ℕ} → block ≡ cellAt cells + nodes * cellAt cells + patternSize * actuators → block ≡ faultSize p
+  block-is e = e ∙ rw (h .0, h .1, h .2)
+
+-- ---- what receiver i hears
+
+module _ (p : Plan) (faults : List ℕ) (mask i : ℕ) where
+  -- the code's form of a patched bin
+  pub patched-is :
+      (box : List ℕ) {size block : ℕ} → size ≡ binSize p → block ≡ faultSize p → (k : ℕ) →
+      cond (bit mask k) (from 0 faults (k * block + size + i * size) size) (from 0 box (k * size) size) ≡ patched p faults mask i box k
+  unfolding patched faultMessage
+  patched-is box es eb k = rw (es, eb)
+
+  pub patched-length : (box : List ℕ) (k : ℕ) → length (patched p faults mask i box k) ≡ binSize p
+  unfolding patched
+  patched-length box k = split (bit mask k) (λ t. rw t (faultMessage-length p faults k i)) (λ t. rw t (from-length 0 box (binAt p k) (binSize p)))
+
+  pub patched-good : (box : List ℕ) (k : ℕ) → bit mask k ≡ false → patched p faults mask i box k ≡ from 0 box (binAt p k) (binSize p)
+  unfolding patched
+  patched-good box k t = rw t
+
+  -- it depends on the bins of good senders only
+  pub patched-same :
+      (box start : List ℕ) →
+      ((k : ℕ) → k < p .nodes → bit mask k ≡ false → from 0 box (binAt p k) (binSize p) ≡ from 0 start (binAt p k) (binSize p)) →
+      joined (patched p faults mask i box) (p .nodes) ≡ joined (patched p faults mask i start) (p .nodes)
+  unfolding patched
+  patched-same box start e =
+      joined-same (patched p faults mask i box) (patched p faults mask i start) (p .nodes)
+      (λ k l. split (bit mask k) (λ t. rw t) (λ t. rw t (e k l t)))
+
+  -- and leaves them as they are
+  pub patched-kept :
+      (box start : List ℕ) {next : List ℕ} →
+      ((k : ℕ) → k < p .nodes → bit mask k ≡ false → from 0 box (binAt p k) (binSize p) ≡ from 0 start (binAt p k) (binSize p)) →
+      next ≡ cond (bit mask i) box (joined (patched p faults mask i box) (p .nodes)) →
+      (k : ℕ) → k < p .nodes → bit mask k ≡ false → from 0 next (binAt p k) (binSize p) ≡ from 0 start (binAt p k) (binSize p)
+  patched-kept box start {next} e h k l t =
+      split (bit mask i)
+      (λ b. let z : next ≡ box = h ∙ rw b in rw z (e k l t))
+      (λ b.
+      let z : next ≡ joined (patched p faults mask i box) (p .nodes) = h ∙ rw b in
+      rw z (bin-of 0 (binSize p) (patched p faults mask i box) (p .nodes) k (patched-length box) l ∙ patched-good box k t ∙ e k l t))
+
+-- ---- a bad node's memory
+
+pub fault-is :
+    (p : Plan) (faults : List ℕ) (i : ℕ) (old r : Memory) {at cells : ℕ} →
+    at ≡ faultAt p i →
+    p .cells ≡ cells →
+    (r .counter ≡ be counterSize faults at) × (r .cells ≡ fill (λ c. be patternSize faults (at + cellAt c)) cells (old .cells)) →
+    r ≡ faultMemory p faults i old
+unfolding faultMemory
+fault-is p faults i old r {at} {cells} e l h =
+    let a : r .counter ≡ be counterSize faults (faultAt p i) = h .0 ∙ rw e in
+    let b : r .cells ≡ fill (λ c. be patternSize faults (faultAt p i + cellAt c)) (p .cells) (old .cells) = h .1 ∙ rw (e, l) in
+    λ k. record { counter = a k; cells = b k }
+
+-- ---- a node after the frame
+
+module _ (p : Plan) (faults : List ℕ) (mask i : ℕ) where
+  -- it depends on the bins of good senders only
+  pub after-same :
+      (box start : List ℕ) {r has own : Memory} →
+      ((k : ℕ) → k < p .nodes → bit mask k ≡ false → from 0 box (binAt p k) (binSize p) ≡ from 0 start (binAt p k) (binSize p)) →
+      has ≡ own →
+      r ≡ after p faults mask box i has →
+      r ≡ after p faults mask start i own
+  unfolding after
+  after-same box start e a h = h ∙ rw (a, patched-same p faults mask i box start e)
+
+  after-lent :
+      (box : List ℕ) (own : Memory) {nodes frames cells actuators : ℕ} {votes : List Bool} →
+      Counts p nodes cells actuators → p .frames ≡ frames → p .voted ≡ votes →
+      after (lent nodes frames cells actuators votes []) faults mask box i own ≡ after p faults mask box i own
+  unfolding after faultMemory patched faultMessage voted votedCounter votedCell counterIn cellIn before votedIn
+  after-lent box own h f v = rw (← h .0, ← h .1, ← h .2, ← f, ← v)
+
+pub all-lent :
+    (p : Plan) (faults : List ℕ) (mask : ℕ) (box : List ℕ) (own : List Memory) {nodes frames cells actuators : ℕ} {votes : List Bool} {all : List Memory} →
+    all ≡ fill (λ i. after (lent nodes frames cells actuators votes []) faults mask box i (getD own i zeroMemory)) nodes own →
+    Counts p nodes cells actuators → p .frames ≡ frames → p .voted ≡ votes →
+    all ≡ fill (λ i. after p faults mask box i (getD own i zeroMemory)) (p .nodes) own
+all-lent p faults mask box own {nodes} e h f v =
+    e
+    ∙ fill-same _ (λ i. after p faults mask box i (getD own i zeroMemory)) nodes own (λ i l. after-lent p faults mask i box (getD own i zeroMemory) h f v)
+    ∙ ap (λ (n : ℕ). fill (λ i. after p faults mask box i (getD own i zeroMemory)) n own) (sym (h .0))
+
+-- ---- by the test of a bit
+
+module _ {A : Type 0} (mask j : ℕ) {b : Bool} (e : b ≡ bit mask j) (x y : A) where
+  pub if-bad : {z : A} → b ≡ true → z ≡ x → z ≡ cond (bit mask j) x y
+  if-bad t h = rw (sym e ∙ t) h
+
+  pub if-good : {z : A} → b ≡ false → z ≡ y → z ≡ cond (bit mask j) x y
+  if-good t h = rw (sym e ∙ t) h
+
+-- ---- the table of what the nodes put out: rows of mostActuators entries
+
+pub put-same : (p : Plan) {b t : Bool} {m own : Memory} (x a : ℕ) → b ≡ t → m ≡ own → cond b x (setpoint p m a) ≡ cond t x (setpoint p own a)
+put-same p x a e h = rw (e, h)
+
+pub put-lent :
+    (p : Plan) (faults : List ℕ) {nodes cells actuators size block : ℕ} {table : List ℕ} →
+    Counts p nodes cells actuators → p .«actuator_cell» ≡ table → size ≡ binSize p → block ≡ faultSize p → (b : Bool) (j a : ℕ) (m : Memory) →
+    cond b (be patternSize faults (j * block + size + nodes * size + patternSize * a)) (setpoint (lent 0 0 0 0 [] table) m a) ≡ cond b (faultSetpoint p faults j a) (setpoint p m a)
+unfolding faultSetpoint setpoint
+put-lent p faults h t es eb b j a m = rw (es, eb, ← h .0, ← t)
+
+-- row j is written
+module _
+    (table row : List ℕ) (g : ℕ → ℕ) (want : ℕ → ℕ → ℕ) (j A k : ℕ)
+    (long : length table ≡ 56) (few : A ≤ mostActuators) (l : j < mostNodes) (z : k ≡ A)
+    (e : row ≡ fill g A (take k (drop (mostActuators * j) table)))
+  where
+    row-start : length (take k (drop (mostActuators * j) table)) ≡ A
+    row-start = part-length table (mostActuators * j) k A z (omega arith)
+
+    row-length : length row ≡ A
+    row-length = ap length e ∙ fill-length g A (take k (drop (mostActuators * j) table)) ∙ row-start
+
+    row-fits : mostActuators * j + length row ≤ length table
+    row-fits = omega (arith, row-length)
+
+    row-put : take (mostActuators * j) table ++ (row ++ drop k (drop (mostActuators * j) table)) ≡ placed table (mostActuators * j) row
+    row-put = part-back table row row (mostActuators * j) k refl (row-length ∙ sym z)
+
+    pub table-long : length (take (mostActuators * j) table ++ (row ++ drop k (drop (mostActuators * j) table))) ≡ 56
+    table-long = ap length row-put ∙ placed-length table row (mostActuators * j) row-fits ∙ long
+
+    pub table-next :
+        ((b : ℕ) → b < A → g b ≡ want j b) →
+        ((i b : ℕ) → i < j → b < A → getD table (mostActuators * i + b) 0 ≡ want i b) →
+        (i b : ℕ) → i < j + 1 → b < A → getD (take (mostActuators * j) table ++ (row ++ drop k (drop (mostActuators * j) table))) (mostActuators * i + b) 0 ≡ want i b
+    table-next new old i b il bl =
+        rw row-put
+        (split (eqb i j)
+        (λ t.
+        rw (eqb-true i j t)
+        (placed-in table row (mostActuators * j) row-fits b (omega (arith, row-length))
+        ∙ ap (λ (r : List ℕ). getD r b 0) e
+        ∙ fill-in g A (take k (drop (mostActuators * j) table)) b 0 bl (omega (arith, row-start))
+        ∙ new b bl))
+        (λ t.
+        let h : i < j = omega (arith, eqb-false i j t) in
+        placed-before table row (mostActuators * j) row-fits (mostActuators * i + b) (omega arith) ∙ old i b h bl))

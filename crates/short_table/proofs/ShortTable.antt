@@ -1,0 +1,46 @@
+-- The short table holds, by computation.
+use mathlib.Core.Path.{refl}
+use lib.Ieee.{ofBits, toBits, lt, isNan, add}
+use Rattle.array.specs.Index.{howMany, allBelow, fill, joined}
+use Rattle.array.specs.Word.{be, bytes}
+use Rattle.pattern.specs.Pattern.{sumOf, limitOf}
+use Rattle.column.specs.Column.{dropBlanks, decimal, wellFormed, numeralOf, numberOf, mark, front, column}
+use Rattle.column.specs.Row.{row, numbersFrom, numbersOf}
+use Rattle.plan.specs.Known.{votedIn, readsKnown, knowTask, knowTasks, knowVoted, knowFrame, known, allKnown, periodTo, period}
+use Rattle.plan.specs.Accepted.{headerOk, opOk, taskOk}
+use Rattle.plan_text.specs.Line.{numbersAt, lineAt, isTask}
+use Rattle.plan_text.specs.Written.{written}
+use Rattle.plan_text.specs.Meant.{opOf, taskOf, headerWith, initialWith, countWith, tasksWith, votedWith, actuatorsWith, withLine, planTo, planOf}
+use Rattle.plan_text.specs.Refused.{lengthOk, isHeader, afterCells, taskInOrder, voteInOrder, actuatorInOrder, inOrder, taskZeros, inRange, rulesOf, formOrRules, lineRefusal, firstRefusal, isLast, endRefusal, periodRefusal, linesRefusal, textRefusal}
+use Rattle.plan_text.specs.Answers.{unlessRefused, readAnswer}
+use Rattle.node.specs.Task.{opValue, runTask, runTasks}
+use Rattle.node.specs.Majority.{holders, firstShared, majority}
+use Rattle.node.specs.Node.{computed, before, sentCell, messageOf, counterIn, cellIn, orOwn, votedCounter, votedCell, voted}
+use Rattle.system.specs.Plane.{mostHeld, plane}
+use Rattle.short_table.specs.ShortTable.{linesK, linesTake, planK, planTake, mailbox, countersVoted, cellsVoted, planeOf, late, ShortTable}
+
+pub short-table : ShortTable
+unfolding linesK linesTake planK planTake mailbox countersVoted cellsVoted planeOf late
+    howMany allBelow fill joined be bytes ofBits toBits lt isNan add sumOf limitOf
+    dropBlanks decimal wellFormed numeralOf numberOf mark front column row numbersFrom numbersOf
+    votedIn readsKnown knowTask knowTasks knowVoted knowFrame known allKnown periodTo period headerOk opOk taskOk
+    numbersAt lineAt isTask written opOf taskOf headerWith initialWith countWith tasksWith votedWith actuatorsWith withLine planTo planOf
+    lengthOk isHeader afterCells taskInOrder voteInOrder actuatorInOrder inOrder taskZeros inRange rulesOf formOrRules lineRefusal firstRefusal
+    isLast endRefusal periodRefusal linesRefusal textRefusal unlessRefused readAnswer
+    opValue runTask runTasks holders firstShared majority computed before sentCell messageOf counterIn cellIn orOwn votedCounter votedCell voted mostHeld plane
+short-table =
+    record {
+      row-1 = (refl, refl);
+      row-2 = (refl, refl);
+      row-3 = (refl, refl);
+      row-4 = (refl, refl);
+      row-5 = (refl, refl);
+      row-6 = λ own. refl;
+      row-7 = refl;
+      row-8 = refl;
+      row-9 = λ own. refl;
+      row-10 = refl;
+      row-11 = refl;
+      row-12 = refl;
+      row-13 = (refl, refl);
+    }

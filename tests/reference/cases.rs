@@ -1,0 +1,167 @@
+//! The test cases: the bytes of plan.txt and run.txt follow from the seed alone.
+
+use super::damage;
+use super::generate::{
+    assemble, chain, longest, never, plan_text, recovering, run, run_text, slow, votes, Masks,
+    OUTSIDE,
+};
+use super::listing::MOST_LINES;
+use super::plan::{read, Row};
+use super::random::{Random, Values};
+
+/// A file that is None is not written.
+pub struct Case {
+    pub class: &'static str,
+    pub plan: Option<Vec<u8>>,
+    pub run: Option<Vec<u8>>,
+}
+
+/// The classes, and how many of each 100 seeds one after another they get.
+pub const CLASSES: [(&str, u64); 18] = [
+    ("within the premise", 10),
+    ("outside the premise", 13),
+    ("slow recovery", 3),
+    ("longest plan", 2),
+    ("long run", 1),
+    ("empty run", 1),
+    ("one-line run", 1),
+    ("no recovery", 3),
+    ("plan length", 2),
+    ("plan form", 9),
+    ("plan header", 7),
+    ("plan order", 12),
+    ("plan rules", 15),
+    ("plan, several damages", 9),
+    ("run damaged", 9),
+    ("plan and run damaged", 1),
+    ("plan.txt missing", 1),
+    ("run.txt missing", 1),
+];
+
+/// Runs at the limit of 100,000 lines: one seed each out of 3,000 one after another.
+pub const LIMITS: [(&str, u64); 3] =
+    [("100,000 lines", 999), ("100,001 lines", 1999), ("100,001 lines, last damaged", 2999)];
+
+/// A plan for the classes that damage it; now and then one that 6 would refuse.
+fn any_plan(r: &Random, values: &Values) -> Vec<Row> {
+    match r.below(12) {
+        0 | 1 => never(r, values),
+        2 => slow(r, values),
+        3 => longest(r, values),
+        _ => recovering(r, values),
+    }
+}
+
+/// A small plan and a run of 100,000 lines or one more.
+fn limit_case(r: &Random, class: &'static str) -> Case {
+    let values = &Values::new(r);
+    let sizes = [3, r.between(1, 2), r.between(1, 2), 1, 1];
+    let middle = [chain(r, values, sizes), votes(r, sizes, 50)].concat();
+    let rows = assemble(r, values, sizes, &middle);
+    let plan = read(&plan_text(&rows)).expect("a chain has a recovery period");
+    let surplus = usize::from(class != LIMITS[0].0);
+    let mut run = run(r, &plan, values, Masks::Premise, MOST_LINES + surplus);
+    if class == LIMITS[2].0 {
+        run.truncate(run.len() - r.between(1, 28));
+    }
+    Case { class, plan: Some(plan_text(&rows)), run: Some(run) }
+}
+
+/// A plan that is whole, and its run.
+fn whole_case(r: &Random, class: &'static str) -> Case {
+    let values = &Values::new(r);
+    let rows = match class {
+        "slow recovery" => slow(r, values),
+        "longest plan" => longest(r, values),
+        "no recovery" => never(r, values),
+        _ => recovering(r, values),
+    };
+    let count = match class {
+        "long run" => r.between(1500, 4000),
+        "empty run" => 0,
+        "one-line run" => 1,
+        _ => r.between(2, 60),
+    };
+    let plan = plan_text(&rows);
+    let run = match (class, read(&plan)) {
+        ("outside the premise", Ok(plan)) => run(r, &plan, values, r.pick(&OUTSIDE), count),
+        ("within the premise" | "slow recovery", Ok(plan)) => {
+            // Long enough for nodes to recover, unless R is large.
+            let count = count.max((3 * plan.period).min(200));
+            run(r, &plan, values, Masks::Premise, count)
+        }
+        _ => any_run(r, &plan, values, count).0,
+    };
+    Case { class, plan: Some(plan), run: Some(run) }
+}
+
+/// A run with any masks, and the numbers of nodes and sensors it is for. For a refused plan these
+/// are made up, as nobody will read the run.
+fn any_run(r: &Random, plan: &[u8], values: &Values, count: usize) -> (Vec<u8>, usize, usize) {
+    let masks = r.pick(&[Masks::Quiet, Masks::Premise, Masks::Any, Masks::Stretches]);
+    match read(plan) {
+        Ok(plan) => (run(r, &plan, values, masks, count), plan.nodes, plan.sensors),
+        Err(_) => {
+            let sensors = r.between(1, 16);
+            (run_text(&vec![vec![0; 2 + sensors]; count]), 3, sensors)
+        }
+    }
+}
+
+/// A plan or run that is damaged or missing; `turn` counts the cases of the class.
+fn damaged_case(r: &Random, class: &'static str, turn: usize) -> Case {
+    let values = &Values::new(r);
+    let rows = match class {
+        "run damaged" | "run.txt missing" => recovering(r, values),
+        "plan rules" => loop {
+            let rows = any_plan(r, values);
+            if rows.iter().any(|row| row[0] == damage::KINDS[turn % damage::KINDS.len()]) {
+                break rows;
+            }
+        },
+        _ => any_plan(r, values),
+    };
+    let plan = match class {
+        "plan length" => damage::length(r, plan_text(&rows), turn),
+        "plan form" => damage::form(r, rows, turn),
+        "plan header" => damage::header(r, rows, turn),
+        "plan order" => damage::order(r, rows, turn),
+        "plan rules" => damage::rules(r, rows, turn),
+        "plan, several damages" | "plan and run damaged" => damage::several(r, rows, turn),
+        _ => plan_text(&rows),
+    };
+    let (mut run, nodes, sensors) = any_run(r, &plan, values, r.between(1, 20));
+    if class.ends_with("run damaged") {
+        damage::run(r, &mut run, nodes, sensors, turn);
+    }
+    Case {
+        class,
+        plan: Some(plan).filter(|_| class != "plan.txt missing"),
+        run: Some(run).filter(|_| class != "run.txt missing"),
+    }
+}
+
+/// The class of a seed, and how many cases of that class have smaller seeds.
+pub fn class_of(seed: u64) -> (&'static str, usize) {
+    let mut slot = seed % 100;
+    for (class, share) in CLASSES {
+        if slot < share {
+            return (class, (seed / 100 * share + slot) as usize);
+        }
+        slot -= share;
+    }
+    unreachable!("the shares of the classes sum to 100")
+}
+
+pub fn case(seed: u64) -> Case {
+    let r = &Random::new(seed);
+    if let Some((class, _)) = LIMITS.iter().find(|(_, limit)| seed % 3000 == *limit) {
+        return limit_case(r, class);
+    }
+    match class_of(seed) {
+        (class, turn) if class.starts_with("plan") || class.starts_with("run") => {
+            damaged_case(r, class, turn)
+        }
+        (class, _) => whole_case(r, class),
+    }
+}

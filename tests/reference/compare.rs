@@ -1,0 +1,203 @@
+//! Runs a program over the generated cases and compares its listings with the reference's.
+
+use std::collections::BTreeMap;
+use std::fs;
+use std::io;
+use std::path::{Path, PathBuf};
+use std::process::{Command, Stdio};
+use std::sync::atomic::{AtomicU64, Ordering};
+use std::sync::Mutex;
+
+use super::cases::{case, Case, CLASSES, LIMITS};
+use super::listing::{listing, Listing};
+
+const REFUSALS: [u64; 7] = [1, 2, 3, 4, 5, 6, 10];
+/// From this many cases on, each class and each refusal has to come up.
+const ENOUGH: u64 = 3000;
+const WORKERS: usize = 2;
+
+#[derive(Default)]
+struct Totals {
+    classes: BTreeMap<&'static str, u64>,
+    refusals: BTreeMap<u64, u64>,
+    cases: u64,
+    accepted: u64,
+    frames: u64,
+}
+
+impl Totals {
+    fn add(&mut self, class: &'static str, listing: &Listing) {
+        *self.classes.entry(class).or_default() += 1;
+        if let Some(refusal) = listing.refusal {
+            *self.refusals.entry(refusal.number).or_default() += 1;
+        }
+        self.cases += 1;
+        self.accepted += u64::from(listing.accepted);
+        self.frames += listing.frames as u64;
+    }
+
+    /// Prints the table; false if some class or refusal never came up.
+    fn print(&self) -> bool {
+        let mut complete = true;
+        for (class, _) in CLASSES.iter().chain(&LIMITS) {
+            let cases = self.classes.get(class).copied().unwrap_or(0);
+            complete &= cases > 0;
+            println!("{class:<32}{cases:>10}");
+        }
+        for number in REFUSALS {
+            let cases = self.refusals.get(&number).copied().unwrap_or(0);
+            complete &= cases > 0;
+            println!("{:<32}{cases:>10}", format!("refusal {number}"));
+        }
+        println!("{:<32}{:>10}", "accepted plans", self.accepted);
+        println!("{:<32}{:>10}", "frames compared", self.frames);
+        complete
+    }
+}
+
+/// Writes the case's files into a folder; a file that the case lacks is taken away.
+pub fn write_case(case: &Case, folder: &Path) -> io::Result<()> {
+    fs::create_dir_all(folder)?;
+    for (name, content) in [("plan.txt", &case.plan), ("run.txt", &case.run)] {
+        let path = folder.join(name);
+        match content {
+            Some(bytes) => fs::write(path, bytes)?,
+            None if path.exists() => fs::remove_file(path)?,
+            None => {}
+        }
+    }
+    Ok(())
+}
+
+struct Difference {
+    seed: u64,
+    report: String,
+}
+
+struct Comparer {
+    program: PathBuf,
+    folder: PathBuf,
+    /// The cases run from `first` up to, not including, `end`.
+    first: u64,
+    end: u64,
+    next: AtomicU64,
+    totals: Mutex<Totals>,
+    difference: Mutex<Option<Difference>>,
+}
+
+impl Comparer {
+    /// Compares one case in a folder of its own; gives a report if the listings differ.
+    fn compare(&self, seed: u64) -> io::Result<Option<String>> {
+        let case = case(seed);
+        let folder = self.folder.join(format!("seed-{seed}"));
+        if folder.exists() {
+            fs::remove_dir_all(&folder)?;
+        }
+        write_case(&case, &folder)?;
+        let bytes = |file: &Option<Vec<u8>>| file.clone().unwrap_or_default();
+        let expected = listing(&bytes(&case.plan), &bytes(&case.run));
+        let output =
+            Command::new(&self.program).current_dir(&folder).stdin(Stdio::null()).output()?;
+        if output.stdout == expected.bytes {
+            self.totals.lock().unwrap().add(case.class, &expected);
+            fs::remove_dir_all(&folder)?;
+            return Ok(None);
+        }
+        fs::write(folder.join("expected"), &expected.bytes)?;
+        fs::write(folder.join("got"), &output.stdout)?;
+        fs::write(folder.join("errors"), &output.stderr)?;
+        let lines = first_difference(&expected.bytes, &output.stdout);
+        let header = format!("seed {seed}, class \"{}\": the listings differ\n", case.class);
+        Ok(Some(header + &lines + &self.again(seed, &folder)))
+    }
+
+    /// Where the case is kept and how to make and run it again.
+    fn again(&self, seed: u64, folder: &Path) -> String {
+        let reference = std::env::args().next().unwrap_or_default();
+        let (program, folder) = (self.program.display(), folder.display());
+        format!(
+            "kept in {folder} (plan.txt, run.txt, expected, got, errors)\n\
+             to make it and run it again:\n  \
+             {reference} case {seed} {folder} && (cd {folder} && {program} | diff - expected)\n\
+             to compare it again:\n  {reference} compare {program} 1 {seed}\n"
+        )
+    }
+
+    /// Takes one seed after another until there is none left or a difference was found.
+    fn work(&self) {
+        while self.difference.lock().unwrap().is_none() {
+            let seed = self.next.fetch_add(1, Ordering::Relaxed);
+            if seed >= self.end {
+                return;
+            }
+            let report = self.compare(seed).unwrap_or_else(|error| {
+                Some(format!("seed {seed}: {} can't be run: {error}\n", self.program.display()))
+            });
+            if let Some(report) = report {
+                let mut difference = self.difference.lock().unwrap();
+                if difference.as_ref().map_or(true, |found| seed < found.seed) {
+                    *difference = Some(Difference { seed, report });
+                }
+            }
+        }
+    }
+
+    /// Prints the difference found or the table; true if all was equal and nothing was left out.
+    fn finish(self) -> bool {
+        if let Some(difference) = self.difference.into_inner().unwrap() {
+            print!("{}", difference.report);
+            return false;
+        }
+        let totals = self.totals.into_inner().unwrap();
+        let complete = totals.print() || self.end - self.first < ENOUGH;
+        if !complete {
+            println!("some class or refusal above never came up");
+            return false;
+        }
+        println!("{} cases equal", totals.cases);
+        true
+    }
+}
+
+/// The first line that differs, as expected and as printed.
+fn first_difference(expected: &[u8], got: &[u8]) -> String {
+    let mut expected = expected.split_inclusive(|&byte| byte == b'\n');
+    let mut got = got.split_inclusive(|&byte| byte == b'\n');
+    let show = |line: Option<&[u8]>| match line {
+        Some(line) => format!("\"{}\"", line[..line.len().min(400)].escape_ascii()),
+        None => String::from("no line"),
+    };
+    for number in 1.. {
+        let (left, right) = (expected.next(), got.next());
+        if left != right || left.is_none() {
+            let (left, right) = (show(left), show(right));
+            return format!("line {number} expected: {left}\nline {number} got:      {right}\n");
+        }
+    }
+    unreachable!()
+}
+
+/// Compares the cases of `count` seeds from `first` on; false if a listing differs or the cases
+/// are not what they should be.
+pub fn compare(program: &str, count: u64, first: u64) -> io::Result<bool> {
+    let folder = std::env::var_os("CASES").unwrap_or_else(|| "target/reference".into());
+    // The program runs in another folder, so a path to it must not be relative.
+    let program = match program.contains('/') {
+        true => fs::canonicalize(program)
+            .map_err(|error| io::Error::new(error.kind(), format!("{program}: {error}")))?,
+        false => PathBuf::from(program),
+    };
+    let comparer = Comparer {
+        program,
+        folder: PathBuf::from(folder),
+        first,
+        end: first.saturating_add(count),
+        next: AtomicU64::new(first),
+        totals: Mutex::default(),
+        difference: Mutex::default(),
+    };
+    std::thread::scope(|scope| {
+        (0..WORKERS).for_each(|_| drop(scope.spawn(|| comparer.work())));
+    });
+    Ok(comparer.finish())
+}

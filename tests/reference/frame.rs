@@ -1,0 +1,271 @@
+//! One frame: compute, message, vote, plane, faults, and the single controller.
+
+use super::plan::{Action, Plan, Task};
+
+/// "A NaN result becomes the pattern 7FF8000000000000."
+const NAN: u64 = 0x7FF8_0000_0000_0000;
+const MOST_NODES: usize = 7;
+
+/// "A node's memory is a counter of 16 bits and C cells, held as patterns."
+#[derive(Clone, PartialEq, Eq, Debug)]
+pub struct Memory {
+    pub counter: u16,
+    pub cells: Vec<u64>,
+}
+
+fn float(pattern: u64) -> f64 {
+    f64::from_bits(pattern)
+}
+
+/// The pattern of an arithmetic result, which f64 has rounded once.
+fn result(value: f64) -> u64 {
+    if value.is_nan() {
+        NAN
+    } else {
+        value.to_bits()
+    }
+}
+
+/// "Limit gives low if a < low or a is NaN, high if a > high, else a's own pattern."
+pub fn limit(a: u64, low: u64, high: u64) -> u64 {
+    if float(a) < float(low) || float(a).is_nan() {
+        low
+    } else if float(a) > float(high) {
+        high
+    } else {
+        a
+    }
+}
+
+/// "Wind gives the target's old value plus rate x a (two roundings), then limited from -cap to
+/// cap as Limit does." -cap is cap with its sign bit set, also where cap is 0.
+fn wind(old: u64, a: u64, rate: u64, cap: u64) -> u64 {
+    let step = result(float(rate) * float(a));
+    let sum = result(float(old) + float(step));
+    limit(sum, cap | 1 << 63, cap)
+}
+
+fn task_result(task: &Task, cells: &[u64], sensors: &[u64]) -> u64 {
+    match task.action {
+        Action::Take { sensor } => sensors[sensor],
+        Action::Sum { a, b } => result(float(cells[a]) + float(cells[b])),
+        Action::Diff { a, b } => result(float(cells[a]) - float(cells[b])),
+        Action::Scale { a, factor } => result(float(factor) * float(cells[a])),
+        Action::Limit { a, low, high } => limit(cells[a], low, high),
+        Action::Wind { a, rate, cap } => wind(cells[task.target], cells[a], rate, cap),
+    }
+}
+
+impl Memory {
+    /// "At power-on the counter is 0 and cells are initial."
+    pub fn power_on(plan: &Plan) -> Memory {
+        Memory { counter: 0, cells: plan.initial.clone() }
+    }
+
+    /// "With g = counter mod F, run the tasks of frame g in text order, each seeing the writes
+    /// before it. The counter becomes (g + 1) mod F."
+    pub fn compute(&mut self, plan: &Plan, sensors: &[u64]) {
+        let frame = usize::from(self.counter) % plan.frames;
+        for task in &plan.tasks[frame] {
+            self.cells[task.target] = task_result(task, &self.cells, sensors);
+        }
+        self.counter = ((frame + 1) % plan.frames) as u16;
+    }
+
+    /// "The message is 2 + 8C bytes: the new counter, then the cells 0 to C-1, all big-endian; a
+    /// cell not voted in g is sent as zero." g is the frame before the counter.
+    pub fn message(&self, plan: &Plan, place: &mut [u8]) {
+        place.fill(0);
+        place[..2].copy_from_slice(&self.counter.to_be_bytes());
+        for &cell in &plan.votes[frame_before(plan, self.counter)] {
+            place[2 + 8 * cell..10 + 8 * cell].copy_from_slice(&self.cells[cell].to_be_bytes());
+        }
+    }
+
+    /// "Counters are voted first; with no such value, or one >= F, the node's own stays. Let g' be
+    /// the frame before the resulting counter. Each cell voted in g' takes its voted value, or
+    /// stays as it is if there is none."
+    pub fn vote(&mut self, plan: &Plan, mailbox: &[u8]) {
+        let mut bins = [&mailbox[..0]; MOST_NODES];
+        for (bin, bytes) in bins.iter_mut().zip(mailbox.chunks_exact(message_length(plan))) {
+            *bin = bytes;
+        }
+        let bins = &bins[..plan.nodes];
+        match majority(bins, 0).map(|&bytes| u16::from_be_bytes(bytes)) {
+            Some(counter) if usize::from(counter) < plan.frames => self.counter = counter,
+            _ => {}
+        }
+        for &cell in &plan.votes[frame_before(plan, self.counter)] {
+            if let Some(&bytes) = majority(bins, 2 + 8 * cell) {
+                self.cells[cell] = u64::from_be_bytes(bytes);
+            }
+        }
+    }
+
+    /// Takes a memory "laid out as a message with all cells".
+    fn load(&mut self, bytes: &[u8]) {
+        self.counter = u16::from_be_bytes(bytes_at(bytes, 0));
+        for (cell, pattern) in self.cells.iter_mut().enumerate() {
+            *pattern = u64::from_be_bytes(bytes_at(bytes, 2 + 8 * cell));
+        }
+    }
+
+    /// "Setpoint i is the pattern of the cell of actuator i."
+    pub fn setpoint(&self, plan: &Plan, actuator: usize) -> u64 {
+        self.cells[plan.outputs[actuator]]
+    }
+}
+
+pub fn message_length(plan: &Plan) -> usize {
+    2 + 8 * plan.cells
+}
+
+/// "n x ((n + 1) x (2 + 8C) + 8A)."
+pub fn fault_length(plan: &Plan) -> usize {
+    plan.nodes * node_fault_length(plan)
+}
+
+fn node_fault_length(plan: &Plan) -> usize {
+    (plan.nodes + 1) * message_length(plan) + 8 * plan.actuators
+}
+
+/// "The frame before a counter c is (c + F - 1) mod F."
+fn frame_before(plan: &Plan, counter: u16) -> usize {
+    (usize::from(counter) + plan.frames - 1) % plan.frames
+}
+
+fn bytes_at<const WIDTH: usize>(bytes: &[u8], at: usize) -> [u8; WIDTH] {
+    bytes[at..at + WIDTH].try_into().unwrap()
+}
+
+/// "The voted value is the pattern of the first bin that more than half of the bins share": of
+/// the WIDTH bytes that stand at `at` in each bin, compared as bits.
+fn majority<'a, const WIDTH: usize>(bins: &[&'a [u8]], at: usize) -> Option<&'a [u8; WIDTH]> {
+    let value_of = |bin: &&'a [u8]| -> &'a [u8; WIDTH] { bin[at..].first_chunk().unwrap() };
+    for value in bins.iter().map(value_of) {
+        let mut holders = 0;
+        for other in bins.iter().map(value_of) {
+            holders += usize::from(other == value);
+            if 2 * holders > bins.len() {
+                return Some(value);
+            }
+        }
+    }
+    None
+}
+
+/// "The value that most nodes put out; of tied values, the one whose lowest-numbered holder is
+/// lowest." `values` are the nodes' setpoints for one actuator, node 0 first.
+pub fn plane(values: &[u64]) -> u64 {
+    let mut best = (0, 0);
+    for &value in values {
+        let holders = values.iter().filter(|&&other| other == value).count();
+        if holders > best.0 {
+            best = (holders, value);
+        }
+    }
+    best.1
+}
+
+/// "n memories and n good counts", with places for the messages and one mailbox.
+pub struct System {
+    pub memories: Vec<Memory>,
+    pub counts: Vec<usize>,
+    messages: Vec<u8>,
+    mailbox: Vec<u8>,
+}
+
+impl System {
+    /// "The system record begins at power-on: n memories and n good counts, each R."
+    pub fn power_on(plan: &Plan) -> System {
+        let mailbox = vec![0; plan.nodes * message_length(plan)];
+        System {
+            memories: vec![Memory::power_on(plan); plan.nodes],
+            counts: vec![plan.period; plan.nodes],
+            messages: mailbox.clone(),
+            mailbox,
+        }
+    }
+
+    /// One frame of the whole system; writes what the plane hands on to `place` and gives the
+    /// number of working nodes. Bit i of the mask set: node i is bad in this frame.
+    pub fn frame(
+        &mut self,
+        plan: &Plan,
+        sensors: &[u64],
+        mask: u64,
+        faults: &[u8],
+        place: &mut [u64],
+    ) -> usize {
+        self.compute(plan, sensors, mask);
+        self.vote(plan, mask, faults);
+        self.plane(plan, mask, faults, place);
+        self.count(plan, mask)
+    }
+
+    fn compute(&mut self, plan: &Plan, sensors: &[u64], mask: u64) {
+        let messages = self.messages.chunks_exact_mut(message_length(plan));
+        for (node, (memory, message)) in self.memories.iter_mut().zip(messages).enumerate() {
+            if good(mask, node) {
+                memory.compute(plan, sensors);
+                memory.message(plan, message);
+            }
+        }
+    }
+
+    /// Each good node votes over its n bins; a bad node's memory is the one in the fault bytes:
+    /// "for each node its memory after the frame, its n messages by receiver, its A setpoints".
+    fn vote(&mut self, plan: &Plan, mask: u64, faults: &[u8]) {
+        let length = message_length(plan);
+        for node in 0..plan.nodes {
+            if !good(mask, node) {
+                self.memories[node].load(&faults[node * node_fault_length(plan)..]);
+                continue;
+            }
+            for (sender, bin) in self.mailbox.chunks_exact_mut(length).enumerate() {
+                let sent = if good(mask, sender) {
+                    &self.messages[sender * length..]
+                } else {
+                    &faults[sender * node_fault_length(plan) + (1 + node) * length..]
+                };
+                bin.copy_from_slice(&sent[..length]);
+            }
+            self.memories[node].vote(plan, &self.mailbox);
+        }
+    }
+
+    fn plane(&self, plan: &Plan, mask: u64, faults: &[u8], place: &mut [u64]) {
+        let mut values = [0; MOST_NODES];
+        for (actuator, handed_on) in place.iter_mut().enumerate() {
+            for (node, value) in values[..plan.nodes].iter_mut().enumerate() {
+                *value = if good(mask, node) {
+                    self.memories[node].setpoint(plan, actuator)
+                } else {
+                    let end = (node + 1) * node_fault_length(plan);
+                    u64::from_be_bytes(bytes_at(faults, end - 8 * (plan.actuators - actuator)))
+                };
+            }
+            *handed_on = plane(&values[..plan.nodes]);
+        }
+    }
+
+    /// "A bad node's count becomes 0; a good one's rises by 1 up to R. A node is working in a
+    /// frame if it is good in it and its count before was R."
+    fn count(&mut self, plan: &Plan, mask: u64) -> usize {
+        let mut working = 0;
+        for (node, count) in self.counts.iter_mut().enumerate() {
+            if !good(mask, node) {
+                *count = 0;
+            } else if *count == plan.period {
+                working += 1;
+            } else {
+                *count += 1;
+            }
+        }
+        working
+    }
+}
+
+fn good(mask: u64, node: usize) -> bool {
+    mask >> node & 1 == 0
+}

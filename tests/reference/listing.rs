@@ -1,0 +1,120 @@
+//! The run program: its whole output as bytes, from the bytes of plan.txt and run.txt.
+
+use super::frame::{fault_length, Memory, System};
+use super::plan::{self, number, Plan, Refusal};
+
+/// "10: ... or line 100,001."
+pub const MOST_LINES: usize = 100_000;
+
+pub struct Listing {
+    pub bytes: Vec<u8>,
+    pub frames: usize,
+    pub accepted: bool,
+    pub refusal: Option<Refusal>,
+}
+
+/// Writes a number right-justified in a column.
+pub fn push_number(out: &mut Vec<u8>, mut value: u64, width: usize) {
+    let mut digits = [b' '; 20];
+    let mut start = 20;
+    loop {
+        start -= 1;
+        digits[start] = b'0' + (value % 10) as u8;
+        value /= 10;
+        if value == 0 {
+            break;
+        }
+    }
+    out.extend_from_slice(&digits[start.min(20 - width)..]);
+}
+
+/// "mask (width 4), fill (4), S patterns (20 each), line feed"
+pub fn run_line_length(plan: &Plan) -> usize {
+    9 + 20 * plan.sensors
+}
+
+/// Mask and fill of a run line, with its sensor patterns in `sensors`; None is refusal 10: "a
+/// line not of form, mask >= 2^n, fill > 255".
+fn run_line(plan: &Plan, line: &[u8], sensors: &mut [u64]) -> Option<(u64, u8)> {
+    let (mask, fill) = (number(&line[..4])?, number(&line[4..8])?);
+    for (pattern, column) in sensors.iter_mut().zip(line[8..].chunks_exact(20)) {
+        *pattern = number(column)?;
+    }
+    let of_form = line.ends_with(b"\n") && mask < 1 << plan.nodes;
+    Some((mask, u8::try_from(fill).ok()?)).filter(|_| of_form)
+}
+
+/// The system, the single controller beside it, and the buffers of a frame call.
+struct Run<'a> {
+    plan: &'a Plan,
+    system: System,
+    single: Memory,
+    sensors: Vec<u64>,
+    faults: Vec<u8>,
+    place: Vec<u64>,
+}
+
+impl<'a> Run<'a> {
+    fn power_on(plan: &'a Plan) -> Run<'a> {
+        Run {
+            plan,
+            system: System::power_on(plan),
+            single: Memory::power_on(plan),
+            sensors: vec![0; plan.sensors],
+            faults: vec![0; fault_length(plan)],
+            place: vec![0; plan.actuators],
+        }
+    }
+
+    /// Runs the frame of a line and prints it: "frame number from 0 (width 8), nodes working in
+    /// it (4), nodes whose memory then equals the single controller's (4), A plane values (20
+    /// each)". None: the line is refused.
+    fn frame(&mut self, line: &[u8], number: usize, out: &mut Vec<u8>) -> Option<()> {
+        let (mask, fill) = run_line(self.plan, line, &mut self.sensors)?;
+        // "Only bad nodes' bytes matter."
+        if mask != 0 && self.faults[0] != fill {
+            self.faults.fill(fill);
+        }
+        let working =
+            self.system.frame(self.plan, &self.sensors, mask, &self.faults, &mut self.place);
+        self.single.compute(self.plan, &self.sensors);
+        let equal = self.system.memories.iter().filter(|&memory| *memory == self.single).count();
+        push_number(out, number as u64, 8);
+        push_number(out, working as u64, 4);
+        push_number(out, equal as u64, 4);
+        self.place.iter().for_each(|&value| push_number(out, value, 20));
+        out.push(b'\n');
+        Some(())
+    }
+}
+
+/// Prints the frames of a run up to its end or its first refused line.
+fn run(plan: &Plan, text: &[u8], out: &mut Vec<u8>) -> (usize, Option<Refusal>) {
+    let length = run_line_length(plan);
+    let mut run = Run::power_on(plan);
+    let mut frames = 0;
+    for line in text.chunks(length) {
+        let whole = line.len() == length && frames < MOST_LINES;
+        if !whole || run.frame(line, frames, out).is_none() {
+            return (frames, Some(Refusal { number: 10, line: frames + 1 }));
+        }
+        frames += 1;
+    }
+    (frames, None)
+}
+
+/// "A refusal prints number (4) and line (8) and ends the listing."
+pub fn listing(plan_text: &[u8], run_text: &[u8]) -> Listing {
+    let mut bytes = Vec::new();
+    let plan = plan::read(plan_text);
+    let (frames, refusal) = match &plan {
+        Ok(plan) => run(plan, run_text, &mut bytes),
+        Err(refusal) => (0, Some(*refusal)),
+    };
+    if let Some(refusal) = refusal {
+        push_number(&mut bytes, refusal.number, 4);
+        push_number(&mut bytes, refusal.line as u64, 8);
+        bytes.push(b'\n');
+    }
+    Listing { bytes, frames, accepted: plan.is_ok(), refusal }
+}

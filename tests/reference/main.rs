@@ -1,0 +1,83 @@
+//! An independent reference for the voting frame controller, written from document 01 alone,
+//! with a generator of test cases and a comparer. See README.md.
+
+mod cases;
+mod compare;
+mod damage;
+mod frame;
+mod generate;
+mod listing;
+mod plan;
+mod random;
+#[cfg(test)]
+mod tests;
+
+use std::fs::File;
+use std::io::{self, Read, Write};
+use std::path::Path;
+use std::process::ExitCode;
+
+const USAGE: &str = "usage:
+  reference listing FOLDER                      print the listing of FOLDER/plan.txt and run.txt
+  reference case SEED FOLDER                    write the case of a seed to FOLDER
+  reference compare PROGRAM COUNT [FIRST_SEED]  compare PROGRAM with the reference";
+
+/// "A file that can't be opened counts as empty." Where a read fails later, what was read before
+/// is the file.
+fn file(folder: &str, name: &str) -> Vec<u8> {
+    let mut bytes = Vec::new();
+    if let Ok(mut file) = File::open(Path::new(folder).join(name)) {
+        let _ = file.read_to_end(&mut bytes);
+    }
+    bytes
+}
+
+fn print_listing(folder: &str) -> io::Result<bool> {
+    let listing = listing::listing(&file(folder, "plan.txt"), &file(folder, "run.txt"));
+    io::stdout().lock().write_all(&listing.bytes)?;
+    Ok(true)
+}
+
+fn write_case(seed: u64, folder: &str) -> io::Result<bool> {
+    let case = cases::case(seed);
+    compare::write_case(&case, Path::new(folder))?;
+    println!("{}", case.class);
+    Ok(true)
+}
+
+fn usage() -> io::Result<bool> {
+    eprintln!("{USAGE}");
+    Ok(false)
+}
+
+fn command(arguments: &[&str]) -> io::Result<bool> {
+    let number = |text: &str| text.parse::<u64>().ok();
+    match *arguments {
+        ["listing", folder] => print_listing(folder),
+        ["case", seed, folder] => match number(seed) {
+            Some(seed) => write_case(seed, folder),
+            None => usage(),
+        },
+        ["compare", program, count, ref first @ ..] if first.len() < 2 => {
+            let first = first.first().map_or(Some(0), |first| number(first));
+            match (number(count), first) {
+                (Some(count), Some(first)) => compare::compare(program, count, first),
+                _ => usage(),
+            }
+        }
+        _ => usage(),
+    }
+}
+
+fn main() -> ExitCode {
+    let arguments: Vec<String> = std::env::args().skip(1).collect();
+    let arguments: Vec<&str> = arguments.iter().map(String::as_str).collect();
+    match command(&arguments) {
+        Ok(true) => ExitCode::SUCCESS,
+        Ok(false) => ExitCode::FAILURE,
+        Err(error) => {
+            eprintln!("{error}");
+            ExitCode::FAILURE
+        }
+    }
+}

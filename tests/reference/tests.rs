@@ -1,0 +1,332 @@
+//! Document 01's short table and plan K, refusals worked out by hand, and the premise of demand 3.
+
+use super::cases::{case, class_of, CLASSES};
+use super::frame::{fault_length, limit, message_length, plane, Memory, System};
+use super::generate::plan_text;
+use super::listing::listing;
+use super::plan::{parse, read, refuse, Plan, Row, LINE};
+
+const K: [Row; 7] = [
+    [0, 3, 2, 2, 1, 1],
+    [1, 0, 0, 0, 0, 0],
+    [1, 1, 0, 0, 0, 0],
+    [10, 0, 0, 0, 0, 0],
+    [11, 1, 1, 0, 1, 0],
+    [20, 1, 1, 0, 0, 0],
+    [30, 0, 1, 0, 0, 0],
+];
+
+const ONE_CELL: [Row; 4] =
+    [[0, 3, 1, 1, 1, 1], [1, 0, 0, 0, 0, 0], [10, 0, 0, 0, 0, 0], [30, 0, 0, 0, 0, 0]];
+
+const NAN: u64 = 0x7FF8_0000_0000_0000;
+const MINUS: u64 = 1 << 63;
+
+fn k() -> Plan {
+    read(&plan_text(&K)).unwrap()
+}
+
+fn with(rows: &[Row], line: usize, row: Row) -> Vec<Row> {
+    let mut rows = rows.to_vec();
+    rows.insert(line - 1, row);
+    rows
+}
+
+fn without(rows: &[Row], line: usize) -> Vec<Row> {
+    let mut rows = rows.to_vec();
+    rows.remove(line - 1);
+    rows
+}
+
+/// Rows with the columns of one line replaced.
+fn changed(rows: &[Row], line: usize, columns: &[(usize, u64)]) -> Vec<Row> {
+    let mut rows = rows.to_vec();
+    columns.iter().for_each(|&(column, value)| rows[line - 1][column] = value);
+    rows
+}
+
+/// A text with the columns of one line replaced by bytes, right-justified.
+fn text_with(rows: &[Row], line: usize, column: usize, bytes: &str) -> Vec<u8> {
+    let mut text = plan_text(rows);
+    let end = (line - 1) * LINE + [4, 8, 12, 16, 36, 56][column];
+    text[end - bytes.len()..end].copy_from_slice(bytes.as_bytes());
+    text
+}
+
+/// The number and line that a text is refused with; 0 0 if it is accepted.
+fn refusal(text: &[u8]) -> (u64, usize) {
+    read(text).map_or_else(|refusal| (refusal.number, refusal.line), |_| (0, 0))
+}
+
+fn refused(rows: &[Row]) -> (u64, usize) {
+    refusal(&plan_text(rows))
+}
+
+fn period(rows: &[Row]) -> Option<usize> {
+    read(&plan_text(rows)).ok().map(|plan| plan.period)
+}
+
+/// A mailbox of bins with a counter and the same pattern in all cells.
+fn mailbox(plan: &Plan, bins: &[(u16, u64)]) -> Vec<u8> {
+    let mut bytes = Vec::new();
+    for &(counter, pattern) in bins {
+        bytes.extend_from_slice(&counter.to_be_bytes());
+        (0..plan.cells).for_each(|_| bytes.extend_from_slice(&pattern.to_be_bytes()));
+    }
+    bytes
+}
+
+/// The counter after a vote of K's nodes, whose F is 2.
+fn voted_counter(own: u16, counters: [u16; 3]) -> u16 {
+    let plan = k();
+    let mut memory = Memory { counter: own, cells: vec![0, 0] };
+    memory.vote(&plan, &mailbox(&plan, &counters.map(|counter| (counter, 0))));
+    memory.counter
+}
+
+#[test]
+fn rows_1_to_5_recovery_periods() {
+    assert_eq!(period(&K), Some(3));
+    assert_eq!(refused(&without(&K, 6)), (6, 0));
+    assert_eq!(period(&changed(&K, 6, &[(1, 0)])), Some(3));
+    assert_eq!(period(&ONE_CELL), Some(2));
+    assert_eq!(period(&with(&ONE_CELL, 4, [20, 0, 0, 0, 0, 0])), Some(1));
+}
+
+#[test]
+fn rows_6_to_8_counters() {
+    assert_eq!(voted_counter(1, [1, 1, 9]), 1);
+    assert_eq!(voted_counter(0, [1, 1, 9]), 1);
+    assert_eq!(voted_counter(0, [1, 0, 9]), 0);
+    assert_eq!(voted_counter(1, [5, 5, 1]), 1);
+}
+
+#[test]
+fn row_9_half_of_four_is_no_majority() {
+    let four = read(&plan_text(&changed(&K, 1, &[(1, 4)]))).unwrap();
+    let mut memory = Memory { counter: 0, cells: vec![7, 9] };
+    memory.vote(&four, &mailbox(&four, &[(0, 0), (0, 0), (0, MINUS), (0, MINUS)]));
+    assert_eq!(memory.cells, [7, 9]);
+    memory.vote(&four, &mailbox(&four, &[(0, 0), (0, NAN), (0, NAN), (0, NAN)]));
+    assert_eq!(memory.cells, [7, NAN]);
+}
+
+#[test]
+fn rows_10_and_11_plane() {
+    assert_eq!(plane(&[7, 8, 9]), 7);
+    assert_eq!(plane(&[4, 5, 5, 4, 6]), 4);
+    assert_eq!(plane(&[4, 5, 5, 6, 5]), 5);
+    assert_eq!(plane(&[0, MINUS, MINUS]), MINUS);
+}
+
+#[test]
+fn row_12_limit_of_nan() {
+    let [one, two] = [1.0f64.to_bits(), 2.0f64.to_bits()];
+    assert_eq!(limit(NAN, one, two), one);
+    assert_eq!(limit(u64::MAX, one, two), one);
+    assert_eq!(limit(3.0f64.to_bits(), one, two), two);
+    assert_eq!(limit(MINUS, 0, 0), MINUS);
+}
+
+#[test]
+fn row_13_counter_65535() {
+    let plan = k();
+    let mut memory = Memory { counter: 65_535, cells: vec![1.0f64.to_bits(), 2.0f64.to_bits()] };
+    memory.compute(&plan, &[0]);
+    let mut message = vec![255; message_length(&plan)];
+    memory.message(&plan, &mut message);
+    assert_eq!(memory.cells, [1.0f64.to_bits(), 3.0f64.to_bits()]);
+    // Cell 0 is not voted in frame 1 and is sent as zero.
+    let sent = [&[0; 10], &3.0f64.to_be_bytes()[..]].concat();
+    assert_eq!(message, sent);
+}
+
+/// Voted cells are those of the frame before the voted counter, not of the node's own.
+#[test]
+fn votes_of_the_resulting_counter() {
+    let plan = read(&plan_text(&with(&K, 6, [20, 0, 0, 0, 0, 0]))).unwrap();
+    let mut memory = Memory { counter: 0, cells: vec![7, 9] };
+    memory.vote(&plan, &mailbox(&plan, &[(1, 5), (1, 5), (0, 5)]));
+    assert_eq!((memory.counter, memory.cells), (1, vec![5, 9]));
+}
+
+/// The fault bytes: "for each node its memory after the frame, its n messages by receiver, its A
+/// setpoints".
+#[test]
+fn layout_of_the_fault_bytes() {
+    let plan = k();
+    let mut faults = vec![0; fault_length(&plan)];
+    assert_eq!(faults.len(), 3 * (4 * 18 + 8));
+    let node = 2 * (4 * 18 + 8);
+    faults[node + 1] = 9; // its counter
+    faults[node + 17] = 8; // its cell 1
+    faults[node + 18 + 1] = 1; // the counter it sends to node 0
+    faults[node + 3 * 18 + 18 + 7] = 6; // its setpoint
+    let mut system = System::power_on(&plan);
+    let mut place = [0];
+    system.frame(&plan, &[5], 0b110, &faults, &mut place);
+    assert_eq!(system.memories[0], Memory { counter: 1, cells: vec![5, 0] });
+    assert_eq!(system.memories[1], Memory { counter: 0, cells: vec![0, 0] });
+    assert_eq!(system.memories[2], Memory { counter: 9, cells: vec![0, 8] });
+    assert_eq!(place, [0]);
+    assert_eq!(system.counts, [3, 0, 0]);
+}
+
+fn k_run() -> Vec<u8> {
+    let masks = [0, 4, 0, 0, 0, 0];
+    let sensors = [1.0f64, 1.0, 2.0, 3.0, 3.0, 3.0];
+    let line = |(mask, sensor): (i32, f64)| format!("{mask:4} 255{:20}\n", sensor.to_bits());
+    masks.into_iter().zip(sensors).map(line).collect::<String>().into_bytes()
+}
+
+const K_LISTING: &str = "       0   3   3                   0
+       1   2   2 4607182418800017408
+       2   2   2 4607182418800017408
+       3   2   2 4613937818241073152
+       4   2   3 4613937818241073152
+       5   3   3 4618441417868443648
+";
+
+#[test]
+fn listing_of_k() {
+    let printed = |plan: &[u8], run: &[u8]| String::from_utf8(listing(plan, run).bytes).unwrap();
+    let (plan, run) = (plan_text(&K), k_run());
+    assert_eq!(printed(&plan, &run), K_LISTING);
+    let five_frames = K_LISTING[..5 * 37].to_owned();
+    assert_eq!(printed(&plan, &run[..run.len() - 1]), five_frames + "  10       6\n");
+    assert_eq!(printed(&plan, b""), "");
+    assert_eq!(printed(b"", &run), "   1       0\n");
+    assert_eq!(printed(&plan, b"   8   0                   0\n"), "  10       1\n");
+    assert_eq!(printed(&plan, b"   7 256                   0\n"), "  10       1\n");
+    assert_eq!(printed(&plan_text(&without(&K, 6)), b"x"), "   6       0\n");
+}
+
+#[test]
+fn lengths() {
+    let text = plan_text(&K);
+    assert_eq!(refusal(&text), (0, 0));
+    assert_eq!(refusal(&text[1..]), (1, 0));
+    assert_eq!(refusal(&[&text[..], b" "].concat()), (1, 0));
+    assert_eq!(refusal(&vec![b' '; 618 * LINE]), (1, 0));
+    assert_eq!(refusal(&vec![b' '; 617 * LINE]), (2, 1));
+}
+
+#[test]
+fn numbers() {
+    for bad in ["01", "00", " ", "1 ", "+1", "-1", "\t1", "\r", "a", "18446744073709551616"] {
+        assert_eq!(refusal(&text_with(&K, 2, 4, bad)), (2, 2), "{bad:?}");
+    }
+    assert_eq!(refusal(&text_with(&K, 2, 4, "18446744073709551615")), (0, 0));
+    let mut text = plan_text(&K);
+    text[LINE - 1] = b'\r';
+    assert_eq!(refusal(&text), (2, 1));
+}
+
+#[test]
+fn precedence_in_one_line() {
+    // 2 before 3, 3 before 4: a first line that is no header.
+    assert_eq!(refusal(&text_with(&changed(&K, 1, &[(0, 99)]), 1, 5, "01")), (2, 1));
+    assert_eq!(refused(&changed(&K, 1, &[(0, 99)])), (3, 1));
+    assert_eq!(refused(&without(&K, 1)), (3, 1));
+    assert_eq!(refused(&changed(&K, 1, &[(4, (1 << 32) + 1)])), (3, 1));
+    // 2 before 4 and 5: an unknown kind, a bad index and a bad column.
+    assert_eq!(refusal(&text_with(&changed(&K, 4, &[(0, 16), (2, 2)]), 4, 5, "-0")), (2, 4));
+    assert_eq!(refusal(&text_with(&changed(&K, 4, &[(2, 2)]), 4, 5, "-0")), (2, 4));
+    // 4 before 5.
+    assert_eq!(refused(&changed(&K, 4, &[(0, 16), (2, 2)])), (4, 4));
+    assert_eq!(refused(&changed(&K, 4, &[(2, 2)])), (5, 4));
+    assert_eq!(refused(&changed(&K, 3, &[(1, 2), (2, 1)])), (4, 3));
+    assert_eq!(refused(&with(&K, 7, [20, 0, 9999, 0, 0, 0])), (4, 7));
+    assert_eq!(refused(&with(&K, 7, [20, 1, 9999, 0, 0, 0])), (5, 7));
+}
+
+#[test]
+fn precedence_between_lines() {
+    // An earlier 5 and a later 2, an earlier 4 and a later 2, an earlier 2 and a later 5.
+    assert_eq!(refusal(&text_with(&changed(&K, 4, &[(3, 1)]), 6, 1, "01")), (5, 4));
+    assert_eq!(refusal(&text_with(&changed(&K, 4, &[(0, 9)]), 6, 1, "01")), (4, 4));
+    assert_eq!(refusal(&text_with(&changed(&K, 6, &[(1, 2)]), 4, 1, "01")), (2, 4));
+    // 6 comes after the missing actuator at the end.
+    assert_eq!(refused(&without(&without(&K, 7), 6)), (4, 6));
+    assert_eq!(refused(&K[..1]), (4, 2));
+}
+
+#[test]
+fn order() {
+    assert_eq!(refused(&without(&K, 3)), (4, 3));
+    assert_eq!(refused(&with(&K, 4, K[0])), (4, 4));
+    assert_eq!(refused(&with(&K, 3, K[1])), (4, 3));
+    assert_eq!(refused(&with(&K, 7, K[5])), (4, 7));
+    assert_eq!(refused(&with(&K, 7, K[3])), (4, 7));
+    assert_eq!(refused(&with(&K, 6, K[3])), (4, 6));
+    assert_eq!(refused(&with(&K, 8, [30, 1, 1, 0, 0, 0])), (4, 8));
+    assert_eq!(refused(&with(&K, 8, K[5])), (4, 8));
+    let mut full = K.to_vec();
+    (2..64).for_each(|_| full.insert(5, K[4]));
+    assert_eq!(refused(&full), (0, 0));
+    assert_eq!(refused(&with(&full, 68, [11, 1, 9999, 0, 0, 0])), (4, 68));
+}
+
+#[test]
+fn rules() {
+    let task = |row: Row| refused(&with(&K, 6, row));
+    let [one, two] = [1.0f64.to_bits(), 2.0f64.to_bits()];
+    assert_eq!(task([11, 1, 1, 0, (1 << 32) + 1, 0]), (5, 6));
+    assert_eq!(task([11, 2, 1, 0, 1, 0]), (5, 6));
+    assert_eq!(task([13, 1, 1, 0, 0x7FF << 52, 0]), (5, 6));
+    assert_eq!(task([14, 1, 1, 0, two, one]), (5, 6));
+    assert_eq!(task([14, 1, 1, 0, two | MINUS, one | MINUS]), (0, 0));
+    assert_eq!(task([14, 1, 1, 0, one | MINUS, two | MINUS]), (5, 6));
+    assert_eq!(task([14, 1, 1, 0, 0, MINUS]), (0, 0));
+    assert_eq!(task([14, 1, 1, 0, MINUS, 0]), (0, 0));
+    assert_eq!(task([15, 1, 1, 0, MINUS, 0]), (0, 0));
+    assert_eq!(task([15, 1, 1, 0, MINUS, MINUS]), (5, 6));
+    assert_eq!(refused(&changed(&K, 2, &[(5, 1)])), (5, 2));
+    assert_eq!(refused(&changed(&K, 7, &[(2, 2)])), (5, 7));
+}
+
+/// The longest recovery period is 1 + F x C, which the chains of class "slow recovery" reach.
+#[test]
+fn slow_recovery_reaches_the_bound() {
+    let slow = (0..3000).filter(|&seed| class_of(seed).0 == "slow recovery").map(case);
+    let plans: Vec<_> = slow.map(|case| read(&case.plan.unwrap()).unwrap()).collect();
+    assert!(plans.iter().all(|plan| plan.period == 1 + plan.frames * plan.cells));
+    assert!(plans.iter().any(|plan| plan.period == 513));
+}
+
+/// Demand 3: within its premise the plane hands on the single controller's setpoints, and the
+/// working nodes' memories equal the single controller's.
+#[test]
+fn within_the_premise_the_system_is_the_single_controller() {
+    for case in (0..1000).map(case).filter(|case| case.class == "within the premise") {
+        let plan = read(&case.plan.unwrap()).unwrap();
+        let run = String::from_utf8(case.run.unwrap()).unwrap();
+        let mut system = System::power_on(&plan);
+        let mut single = Memory::power_on(&plan);
+        let mut place = vec![0; plan.actuators];
+        for line in run.lines() {
+            let column = |from: usize, to: usize| line[from..to].trim().parse::<u64>().unwrap();
+            let sensors: Vec<_> =
+                (0..plan.sensors).map(|sensor| column(8 + 20 * sensor, 28 + 20 * sensor)).collect();
+            let faults = vec![column(4, 8) as u8; fault_length(&plan)];
+            let before = system.counts.clone();
+            let mask = column(0, 4);
+            let working = system.frame(&plan, &sensors, mask, &faults, &mut place);
+            single.compute(&plan, &sensors);
+            assert!(2 * working > plan.nodes);
+            for node in 0..plan.nodes {
+                let works = mask >> node & 1 == 0 && before[node] == plan.period;
+                assert!(!works || system.memories[node] == single);
+            }
+            let setpoints: Vec<_> =
+                (0..plan.actuators).map(|actuator| single.setpoint(&plan, actuator)).collect();
+            assert_eq!(place, setpoints);
+        }
+    }
+}
+
+#[test]
+fn classes_share_100_seeds() {
+    assert_eq!(CLASSES.iter().map(|(_, seeds)| seeds).sum::<u64>(), 100);
+    assert_eq!(parse(b"").err(), refuse::<()>(1, 0).err());
+}
