@@ -81,7 +81,7 @@ module _ (mask : ℕ) (word : ℕ → ℕ) where
 -- ---- what every receiver hears
 
 -- a word within a part
-be-part : (n : ℕ) (s : List ℕ) (at w o : ℕ) → o + n ≤ w → be n s (at + o) ≡ be n (from 0 s at w) o
+pub be-part : (n : ℕ) (s : List ℕ) (at w o : ℕ) → o + n ≤ w → be n s (at + o) ≡ be n (from 0 s at w) o
 unfolding be
 be-part zero s at w o l = refl
 be-part (suc n) s at w o l =

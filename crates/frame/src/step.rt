@@ -47,7 +47,7 @@ pub fn counts_ok(good: &[u16; System::NODES], nodes: usize, period: usize) -> bo
 }
 
 // Where the tasks of frame g may begin: after `skipped`, which are not of frame `last`, where that is g.
-fn begin(last: usize, skipped: usize, g: usize) -> usize
+pub fn begin(last: usize, skipped: usize, g: usize) -> usize
     ensures { λ r. ⌜ (r ≡ 0) ⊎ ((g ≡ last) × (r ≡ skipped)) ⌝ }
 {
     if g == last { skipped } else { 0 }
@@ -114,7 +114,7 @@ fn counts(
     next
 }
 
-fn count_after(bad: bool, count: u16, period: usize) -> u16
+pub fn count_after(bad: bool, count: u16, period: usize) -> u16
     requires { ⌜ period < 65536 ⌝ }
     ensures { λ r. ⌜ r ≡ cond bad 0 (min period (count + 1)) ⌝ }
 {
@@ -205,7 +205,7 @@ fn most_held(values: &[u64; System::NODES], n: usize) -> u64
 }
 
 // and where more than half put out one value, by that.
-fn plane(values: &[u64; System::NODES], n: usize) -> u64
+pub fn plane(values: &[u64; System::NODES], n: usize) -> u64
     requires { ⌜ (0 < n) × (n ≤ mostNodes) ⌝ }
     ensures { λ r. ⌜ r ≡ planeOf (λ j. getD (now (values .entry)) j 0) n ⌝ }
 {

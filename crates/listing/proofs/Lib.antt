@@ -4,3 +4,4 @@ pub mod StepLaws
 pub mod RunLaws
 pub mod CallLaws
 pub mod FoldedLaws
+pub mod RowsLaws

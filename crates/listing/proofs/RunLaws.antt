@@ -8,8 +8,8 @@ use native.Mathlib.Omega.{arith}
 use native.Mathlib.Numerals.{add-one}
 use native.Mathlib.Nat.{zero-mul, suc-mul, mul-le-mul-right, le-of-mul-le-mul-right}
 use lib.Dec.{eqb, ltb}
-use lib.ListN.{length, take, drop, length-append, length-drop, length-replicate, drop-of-length-le, take-append-drop}
-use lib.Seq.{length-take-le, length-front, take-nil, take-at, drop-at, drop-drop}
+use lib.ListN.{length, take, drop, length-append, length-drop, drop-of-length-le}
+use lib.Seq.{take-nil, take-at, drop-at, drop-drop}
 use borrow.Author.Tests.{eq-eqb, eqb-true, eqb-false, lt-ltb, le-ltb, ltb-true, ltb-false}
 use borrow.Rule.Slice.PartMut.{putMid}
 use Rattle.array.specs.Index.{joined}
@@ -23,17 +23,11 @@ use Rattle.system.specs.declared.System.{System}
 use Rattle.listing.specs.declared.step.Stepped.{Stepped}
 use Rattle.listing.specs.declared.Run.{Run}
 use Rattle.listing.specs.declared.Printed.{Printed}
-use Rattle.system.specs.Fault.{faultsSize}
-use Rattle.listing.specs.Line.{fillIn, runLineSize, printedSize}
-use Rattle.listing.specs.Listing.{mostLines, leading, isSome, lineNumbers, faultBytes, frameLine, lineOf, numbersOf, systemAt, singleAt, printedAt, frames, printed, lineLeft}
-use Rattle.listing.specs.Step.{blockLines, stepAnswer, stepPlace, stepFaults, printedWith, framesIn, linesAnswer, linesPlace}
-use Rattle.listing.proofs.StepLaws.{part-taken, take-fits, numbers-size, nothing-read, line-early, line-in-time, taken-none, taken-some}
+use Rattle.listing.specs.Line.{runLineSize, printedSize}
+use Rattle.listing.specs.Listing.{mostLines, leading, isSome, lineNumbers, frameLine, lineOf, numbersOf, systemAt, singleAt, printedAt, frames, printed, lineLeft}
+use Rattle.listing.specs.Step.{blockLines, stepAnswer, stepPlace, printedWith, framesIn, linesAnswer, linesPlace}
+use Rattle.listing.proofs.StepLaws.{part-taken, take-fits, numbers-size, nothing-read, line-early, line-in-time, taken-some}
 use Rattle.listing.proofs.WritingLaws.{frame-length}
-
-stepFaults-length : (p : Plan) (sys : System) (o : Option (List ℕ)) (bytes : List ℕ) → length bytes ≡ faultsSize p → length (stepFaults p sys o bytes) ≡ length bytes
-unfolding stepFaults faultBytes
-stepFaults-length p sys none bytes e = refl
-stepFaults-length p sys (some l) bytes e = length-replicate (faultsSize p) (fillIn l) ∙ sym e
 
 -- ---- how many lines stand before the first that fails
 
@@ -159,21 +153,6 @@ module _ (p : Plan) (sys : System) (single : Memory) (first : ℕ) (rest : List 
         leading-is (λ j. isSome (lineOf p sys single first rest j)) (mostLines - first) k (omega (arith, h .few)) (h .good)
         (λ l. ap isSome (e (omega arith)))
 
-    -- the line is refused
-    pub ran-refused :
-        (s : Stepped) (line to : List ℕ) (a b : ℕ) →
-        line ≡ lineBytes k →
-        s ≡ stepAnswer p after memory (lineNumbers p (first + k) line) →
-        to ≡ stepPlace p after memory (first + k) (lineNumbers p (first + k) line) (take b (drop a out)) →
-        s .taken ≡ false →
-        (frames p sys single first rest ≡ k) × (putMid a b out to ≡ out)
-    unfolding lineOf stepPlace
-    ran-refused s line to x y e f g t =
-        let o : lineNumbers p (first + k) line ≡ none = taken-none p after memory s (lineNumbers p (first + k) line) f t in
-        let u : lineNumbers p (first + k) (lineBytes k) ≡ none = ap (lineNumbers p (first + k)) (sym e) ∙ o in
-        let b : to ≡ take y (drop x out) = g ∙ rw o in
-        (frames-are (λ l. sym (line-early p (first + k) (lineBytes k) l) ∙ u), rw (b, take-append-drop y (drop x out)) (take-append-drop x out))
-
     -- nothing is left
     pub ran-ended : length rest ≤ k * size → frames p sys single first rest ≡ k
     unfolding lineOf
@@ -221,21 +200,6 @@ one-more k w e f = rw (e, f, add-one k) (sym (suc-mul k w))
 pub line-bytes : (l : List ℕ) (k w : ℕ) {at size end : ℕ} → at ≡ k * w → size ≡ w → end ≡ min (at + size) (length l) → at ≤ length l → take (end - at) (drop at l) ≡ take w (drop (k * w) l)
 line-bytes l k w {at} {size} e f g h =
     let t : take (min (at + size) (length l) - at) (drop at l) ≡ take size (drop at l) = part-taken l at size h in rw g (t ∙ rw (e, f))
-
--- the fault bytes, whose first are lent, keep their length
-pub faults-kept :
-    (p : Plan) (sys : System) (o : Option (List ℕ)) (bytes to : List ℕ) (n : ℕ) →
-    n ≡ faultsSize p →
-    n ≤ length bytes →
-    to ≡ stepFaults p sys o (take (n - 0) bytes) →
-    length (putMid 0 (n - 0) bytes to) ≡ length bytes
-faults-kept p sys o bytes to n e l g = length-front bytes to (n - 0) (ap length g ∙ kept o)
-  where
-    z : n - 0 ≡ n
-    z = omega arith
-
-    kept : (o : Option (List ℕ)) → length (stepFaults p sys o (take (n - 0) bytes)) ≡ length (take (n - 0) bytes)
-    kept o = stepFaults-length p sys o (take (n - 0) bytes) (rw z (length-take-le n bytes l) ∙ e)
 
 -- ---- what is known of the frames that are run
 

@@ -1,63 +1,35 @@
 -- What the steps of a run need.
 use mathlib.Core.Path.{_≡_, refl, sym, ap, _∙_}
 use mathlib.Core.Bool.{Bool, true, false, cond, _&&_}
-use mathlib.Core.List.{List, [], _∷_, _++_, append-assoc, append-nil}
+use mathlib.Core.List.{List, [], _∷_}
 use mathlib.Core.Option.{Option, none, some}
-use Prim.Native.Nat.{ℕ, zero, suc, _+_, _-_, _*_, _^_, _≤_, _<_, min}
+use Prim.Native.Nat.{ℕ, zero, suc, _+_, _-_, _^_, _≤_, _<_, min}
 use native.Mathlib.Omega.{arith}
-use native.Mathlib.Numerals.{add-one}
-use native.Mathlib.Nat.{mul-le-mul, min-eq-left, min-eq-right, min-le-right, le-min}
+use native.Mathlib.Nat.{min-eq-left, min-eq-right, min-le-right, le-min}
 use lib.Dec.{leb, ltb}
-use lib.ListN.{length, set, take, drop, replicate, length-append, length-replicate, length-drop, drop-of-length-le, replicate-append-replicate}
-use lib.Seq.{set-split, length-take-le, take-nil, take-all, take-at, drop-at, drop-drop}
+use lib.ListN.{length, take, drop, replicate, length-replicate, length-drop}
+use lib.Seq.{length-take-le, take-nil, take-all, take-at}
 use borrow.Author.Tests.{le-ltb, lt-ltb, ltb-true, ltb-false, leb-true, leb-false}
 use borrow.Rule.Slice.PartMut.{putMid}
-use Rattle.array.specs.Index.{howMany, fill}
+use Rattle.array.specs.Index.{fill}
 use Rattle.array.proofs.TestLaws.{split, clash, and-right}
 use Rattle.array.proofs.PlacesLaws.{fill-length}
-use Rattle.column.specs.Row.{row, numbersOf}
+use Rattle.column.specs.Row.{numbersOf}
 use Rattle.column.proofs.RowLaws.{total, room-count, room-of-numbers, numbers-length}
 use Rattle.plan.specs.declared.Plan.{Plan}
-use Rattle.plan.specs.Limits.{mostNodes, mostCells, mostActuators}
+use Rattle.plan.specs.Limits.{mostActuators}
 use Rattle.node.specs.declared.Memory.{Memory}
-use Rattle.node.specs.Size.{patternSize, cellAt}
-use Rattle.node.specs.Node.{computed}
 use Rattle.system.specs.declared.System.{System}
-use Rattle.system.specs.Fault.{faultsSize}
 use Rattle.system.specs.Plane.{plane}
-use Rattle.system.specs.Frame.{memoryOf, putOut, systemAfter, placeAfter, isWorking, sameMemory}
+use Rattle.system.specs.Frame.{putOut, placeAfter}
 use Rattle.listing.specs.declared.step.Stepped.{Stepped}
 use Rattle.listing.specs.declared.step.LineRead.{LineRead}
 use Rattle.listing.specs.declared.step.LineRead.the-variants.{Whole, Refused}
-use Rattle.listing.specs.Line.{patternWidth, runWidths, runLineSize, maskIn, fillIn, sensorsIn, inLimits, runNumbers, printedWidths}
-use Rattle.listing.specs.Listing.{mostLines, lineNumbers, faultBytes, systemNext, planes, working, singleNext, agreeing, frameLine}
+use Rattle.listing.specs.Line.{patternWidth, runWidths, runLineSize, maskIn, fillIn, inLimits, runNumbers}
+use Rattle.listing.specs.Listing.{mostLines, lineNumbers, systemNext, singleNext, frameLine}
 use Rattle.listing.proofs.ReadingLaws.{length-bad}
 use Rattle.listing.proofs.WritingLaws.{total-of-columns}
-use Rattle.listing.specs.Step.{lineRead, mostFaults, stepAnswer, stepPlace, stepFaults}
-
--- ---- the fault bytes
-
-pub spread-size : (s xs : List ℕ) (i x : ℕ) → xs ≡ replicate i x ++ drop i s → i ≤ length s → length xs ≡ length s
-spread-size s xs i x e l = ap length e ∙ length-append (replicate i x) (drop i s) ∙ rw (length-replicate i x, length-drop i s) (omega arith)
-
--- the next byte
-pub spread-more :
-    (s xs : List ℕ) (i x : ℕ) → xs ≡ replicate i x ++ drop i s → i < length s → set xs i x ≡ replicate (i + 1) x ++ drop (i + 1) s
-spread-more s xs i x e l =
-    let k : length xs ≡ length s = spread-size s xs i x e (omega arith) in
-    let a : take i xs ≡ replicate i x = ap (take i) e ∙ take-at (replicate i x) (drop i s) i (length-replicate i x) in
-    let b : drop i xs ≡ drop i s = ap (drop i) e ∙ drop-at (replicate i x) (drop i s) i (length-replicate i x) in
-    let d : drop (i + 1) xs ≡ drop (i + 1) s = sym (drop-drop 1 i xs) ∙ ap (drop 1) b ∙ drop-drop 1 i s in
-    set-split xs i x (omega arith)
-    ∙ rw (← add-one i, a, d) (sym (append-assoc (replicate i x) (x ∷ []) (drop (i + 1) s)) ∙ ap (λ (t : List ℕ). t ++ drop (i + 1) s) (replicate-append-replicate i 1 x))
-
-pub spread-all : (s xs : List ℕ) (i x : ℕ) → xs ≡ replicate i x ++ drop i s → i ≡ length s → xs ≡ replicate (length s) x
-spread-all s xs i x e l = e ∙ ap (λ (t : List ℕ). replicate i x ++ t) (drop-of-length-le s {i = i} (omega arith)) ∙ append-nil (replicate i x) ∙ ap (λ (n : ℕ). replicate n x) l
-
--- the longest
-pub faults-few :
-    (n c a : ℕ) → n ≤ mostNodes → c ≤ mostCells → a ≤ mostActuators → n * (cellAt c + n * cellAt c + patternSize * a) ≤ mostFaults
-faults-few n c a f g h = mul-le-mul f (let k : cellAt c ≤ cellAt mostCells = omega arith in let m : n * cellAt c ≤ mostNodes * cellAt mostCells = mul-le-mul f k in let z : cellAt c + n * cellAt c + patternSize * a ≤ cellAt mostCells + mostNodes * cellAt mostCells + patternSize * mostActuators = omega arith in z)
+use Rattle.listing.specs.Step.{lineRead, stepAnswer, stepPlace}
 
 -- ---- the plane values
 
@@ -96,11 +68,6 @@ first-line l size e = rw e (part-taken l 0 size (omega arith))
 pub front-length : (out : List ℕ) {n m : ℕ} → n ≡ m → m ≤ length out → length (take (n - 0) out) ≡ m
 front-length out {n} {m} e l = let z : n - 0 ≡ m = omega (arith, e) in rw z (length-take-le m out l)
 
--- ---- the fault bytes of a plan, in an array for the longest
-
-pub faults-front : (n : ℕ) → n ≤ mostFaults → (bytes : List ℕ) → length bytes ≡ mostFaults → length (take (n - 0) bytes) ≡ n
-faults-front n l bytes e = let z : n - 0 ≡ n = omega arith in rw z (length-take-le n bytes (omega arith))
-
 -- ---- the frame of a line
 
 module _ (p : Plan) (sys : System) (sensors faults zeros place : List ℕ) (mask : ℕ) where
@@ -117,17 +84,6 @@ module _ (p : Plan) (sys : System) (sensors faults zeros place : List ℕ) (mask
       let k : length place ≡ p .actuators =
       ap length e ∙ fill-length (λ a. plane (putOut p sys sensors mask faults a) (p .nodes)) (p .actuators) (take (p .actuators - 0) (drop 0 zeros)) ∙ ap length t ∙ length-replicate (p .actuators) 0 in
       front-back zeros place (p .actuators) k ∙ e ∙ ap (λ (x : List ℕ). fill (λ a. plane (putOut p sys sensors mask faults a) (p .nodes)) (p .actuators) x) t
-
--- what the parts of a frame give is its line
-pub frame-printed :
-    (p : Plan) (after : System) (memory : Memory) (frame : ℕ) {w v g : ℕ} {out vs us : List ℕ} →
-    out ≡ row (printedWidths (p .actuators)) (frame ∷ w ∷ g ∷ vs) →
-    w ≡ v →
-    g ≡ howMany (λ i. sameMemory p (memoryOf after i) memory) (p .nodes) →
-    vs ≡ us →
-    out ≡ row (printedWidths (p .actuators)) (frame ∷ v ∷ agreeing p after memory ∷ us)
-unfolding agreeing
-frame-printed p after memory frame e x y z = e ∙ rw (x, y, z)
 
 -- ---- the line's numbers
 
@@ -206,35 +162,26 @@ take-fits zero l e = omega arith
 take-fits (suc n) [] e = absurd (omega arith)
 take-fits (suc n) (x ∷ l) e = let h : n ≤ length l = take-fits n l (omega arith) in omega arith
 
--- the bytes that are filled are the frame's
-pub faults-filled : (p : Plan) (sys : System) (l bytes : List ℕ) → length bytes ≡ faultsSize p → replicate (length bytes) (fillIn l) ≡ faultBytes p sys l
-unfolding faultBytes
-faults-filled p sys l bytes e = rw e
-
 -- ---- a line that is refused or run
 
-module _ (p : Plan) (sys : System) (single : Memory) (frame : ℕ) (r : Stepped) where
+module _ (p : Plan) (sys : System) (single : Memory) (frame : ℕ) (r : Stepped) (out : List ℕ) (o : Option (List ℕ)) where
   pub step-refused :
-      (out faults : List ℕ) (o : Option (List ℕ)) →
       o ≡ none →
       (r .taken ≡ false) × (r .system ≡ sys) × (r .single ≡ single) →
-      (r ≡ stepAnswer p sys single o) × (out ≡ stepPlace p sys single frame o out) × (faults ≡ stepFaults p sys o faults)
-  unfolding stepAnswer stepPlace stepFaults
-  step-refused out faults o e h = rw e ((λ i. record { taken = h .0 i; system = h .1 i; single = h .2 i }), refl, refl)
+      (r ≡ stepAnswer p sys single o) × (out ≡ stepPlace p sys single frame o out)
+  unfolding stepAnswer stepPlace
+  step-refused e h = rw e ((λ i. record { taken = h .0 i; system = h .1 i; single = h .2 i }), refl)
 
   pub step-taken :
-      (out bytes sensors faults place : List ℕ) (mask : ℕ) (o : Option (List ℕ)) (l : List ℕ) →
+      (place l : List ℕ) →
       o ≡ some l →
-      sensors ≡ sensorsIn l →
-      mask ≡ maskIn l →
-      faults ≡ faultBytes p sys l →
-      (r .taken ≡ true) × (r .system ≡ systemAfter p sys sensors mask faults) × (r .single ≡ computed p sensors single) × (out ≡ row (printedWidths (p .actuators)) (frame ∷ howMany (isWorking p sys mask) (p .nodes) ∷ agreeing p (r .system) (r .single) ∷ placeAfter p sys sensors mask faults (replicate (p .actuators) 0))) →
-      (r ≡ stepAnswer p sys single o) × (out ≡ stepPlace p sys single frame o place) × (faults ≡ stepFaults p sys o bytes)
-  unfolding stepAnswer stepPlace stepFaults systemNext singleNext frameLine working planes
-  step-taken out bytes sensors faults place mask o l e s m f h =
-      let a : r .system ≡ systemNext p sys l = h .1 ∙ rw (s, m, f) in
-      let b : r .single ≡ singleNext p single l = h .2 ∙ rw s in
-      rw e ((λ i. record { taken = h .0 i; system = a i; single = b i }), h .3 ∙ rw (a, b, s, m, f), f)
+      r .taken ≡ true →
+      r .system ≡ systemNext p sys l →
+      r .single ≡ singleNext p single l →
+      out ≡ frameLine p sys single frame l →
+      (r ≡ stepAnswer p sys single o) × (out ≡ stepPlace p sys single frame o place)
+  unfolding stepAnswer stepPlace
+  step-taken place l e t a b f = rw e ((λ i. record { taken = t i; system = a i; single = b i }), f)
 
 -- what a step that was or was not taken says of the numbers
 pub taken-none : (p : Plan) (sys : System) (single : Memory) (r : Stepped) (o : Option (List ℕ)) → r ≡ stepAnswer p sys single o → r .taken ≡ false → o ≡ none

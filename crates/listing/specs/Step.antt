@@ -7,9 +7,7 @@ use lib.ListN.{length, drop}
 use Rattle.answer.specs.declared.Answer.{Answer}
 use Rattle.answer.specs.declared.Answer.the-variants.{Done, RunLine}
 use Rattle.plan.specs.declared.Plan.{Plan}
-use Rattle.plan.specs.Limits.{mostNodes, mostCells, mostActuators}
 use Rattle.node.specs.declared.Memory.{Memory}
-use Rattle.node.specs.Size.{patternSize, cellAt}
 use Rattle.system.specs.declared.System.{System}
 use Rattle.listing.specs.declared.Run.{Run}
 use Rattle.listing.specs.declared.Printed.{Printed}
@@ -17,7 +15,7 @@ use Rattle.listing.specs.declared.step.Stepped.{Stepped}
 use Rattle.listing.specs.declared.step.LineRead.{LineRead}
 use Rattle.listing.specs.declared.step.LineRead.the-variants.{Whole, Refused}
 use Rattle.listing.specs.Line.{printedSize}
-use Rattle.listing.specs.Listing.{mostLines, faultBytes, systemNext, singleNext, frameLine, systemAt, singleAt, frames, printed, lineLeft}
+use Rattle.listing.specs.Listing.{mostLines, systemNext, singleNext, frameLine, systemAt, singleAt, frames, printed, lineLeft}
 use Rattle.listing.specs.Answers.{runAfter, nextNumbers}
 
 -- ---- a run line that is read
@@ -32,10 +30,6 @@ lineRead Refused vs = none
 
 -- ---- one line
 
--- the longest fault bytes
-abbrev pub mostFaults : ℕ
-mostFaults = mostNodes * ((mostNodes + 1) * cellAt mostCells + patternSize * mostActuators)
-
 -- by the numbers of the line, none where it is refused
 unfoldable pub stepAnswer : Plan → System → Memory → Option (List ℕ) → Stepped
 stepAnswer p sys single none = record { taken = false; system = sys; single = single }
@@ -44,11 +38,6 @@ stepAnswer p sys single (some l) = record { taken = true; system = systemNext p 
 unfoldable pub stepPlace : Plan → System → Memory → ℕ → Option (List ℕ) → List ℕ → List ℕ
 stepPlace p sys single frame none out = out
 stepPlace p sys single frame (some l) out = frameLine p sys single frame l
-
--- the buffer for the fault bytes
-unfoldable pub stepFaults : Plan → System → Option (List ℕ) → List ℕ → List ℕ
-stepFaults p sys none bytes = bytes
-stepFaults p sys (some l) bytes = faultBytes p sys l
 
 abbrev pub printedWith : Answer → ℕ → Plan → ℕ → System → Memory → ℕ → Printed
 printedWith answer count plan period system single frame =

@@ -93,18 +93,7 @@ fn next_line(run: Run, period: usize, rest: &[u8], out: &mut [u8]) -> Printed
     let frame = run.frame;
     let size = step::line_size(plan.sensors);
     let end = step::part_end(0, rest.len(), size);
-    let need = step::faults_size(plan.nodes, plan.cells, plan.actuators);
-    let mut faults = [0u8; step::FAULTS];
-    let s = step::line(
-        plan,
-        period,
-        system,
-        single,
-        frame,
-        &rest[0..end],
-        &mut faults[0..need],
-        out,
-    );
+    let s = step::line(plan, period, system, single, frame, &rest[0..end], out);
     if !s.taken {
         return nothing(refused_line(frame), run);
     }

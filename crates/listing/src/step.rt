@@ -1,23 +1,22 @@
 // The steps of a run, for callers that know the plan to be accepted, its period, and the lengths to be right.
 ghost use mathlib.Core.Path.{_≡_};
-ghost use mathlib.Core.Bool.{true, false};
-ghost use mathlib.Core.List.{_∷_, _++_, []};
-ghost use Prim.Native.Nat.{_+_, _*_, _≤_, min};
+ghost use mathlib.Core.Bool.{true, false, cond};
+ghost use mathlib.Core.List.{List, _∷_, _++_, []};
+ghost use mathlib.Core.Option.{none};
+ghost use Prim.Native.Nat.{ℕ, _+_, _*_, _<_, _≤_, min};
+ghost use lib.Dec.{ltb};
 ghost use lib.ListN.{length, replicate, getD, take};
-ghost use Rattle.array.specs.Index.{howMany, joined};
+ghost use Rattle.array.specs.Index.{joined};
 ghost use Rattle.column.specs.Column.{column};
 ghost use Rattle.column.specs.Row.{row, numbersFrom};
 ghost use Rattle.plan.specs.Accepted.{accepted};
 ghost use Rattle.plan.specs.Known.{period as periodOf};
-ghost use Rattle.plan.specs.Limits.{mostNodes, mostCells, mostSensors, mostActuators};
+ghost use Rattle.plan.specs.Limits.{mostNodes, mostFrames, mostCells, mostSensors, mostActuators};
 ghost use Rattle.plan_text.specs.Reader.{placed};
-ghost use Rattle.node.specs.Node.{computed};
-ghost use Rattle.node.specs.Size.{patternSize, cellAt};
-ghost use Rattle.system.specs.Fault.{faultsSize};
-ghost use Rattle.system.specs.Frame.{systemAfter, placeAfter, isWorking};
+ghost use Rattle.rows.specs.Rows.{rowCount, wordCount, Rows, Ready, Lent};
 ghost use Rattle.listing.specs.Line.{runLineSize, printedWidths, printedSize, patternWidth, sensorsAt, runNumbers, planesAt, refusalLine, refusalSize};
-ghost use Rattle.listing.specs.Listing.{mostLines, lineNumbers, agreeing as agreeingOf};
-ghost use Rattle.listing.specs.Step.{mostFaults, blockLines, stepAnswer, stepPlace, stepFaults, printedWith, linesAnswer, linesPlace, ifRead, lineRead};
+ghost use Rattle.listing.specs.Listing.{mostLines, lineNumbers, systemNext, singleNext, frameLine};
+ghost use Rattle.listing.specs.Step.{blockLines, stepAnswer, stepPlace, printedWith, linesAnswer, linesPlace, ifRead, lineRead};
 use super::Printed;
 use super::Run;
 use answer::Answer;
@@ -31,10 +30,6 @@ pub const LINES: usize = 100000;
 
 // The most lines that one call of `lines` runs.
 pub const BLOCK: usize = 128;
-
-// The longest fault bytes: 7 × (8 × (2 + 8 × 32) + 8 × 8).
-pub const FAULTS: usize = System::NODES
-    * ((System::NODES + 1) * (2 + 8 * System::CELLS) + 8 * Plan::ACTUATORS);
 
 // ---- a run line
 
@@ -172,13 +167,6 @@ pub fn printed_size(actuators: usize) -> usize
     17 + 20 * actuators
 }
 
-pub fn faults_size(nodes: usize, cells: usize, actuators: usize) -> usize
-    requires { ⌜ (nodes ≤ mostNodes) × (cells ≤ mostCells) × (actuators ≤ mostActuators) ⌝ }
-    ensures { λ r. ⌜ (r ≡ nodes * (cellAt cells + nodes * cellAt cells + patternSize * actuators)) × (r ≤ mostFaults) ⌝ }
-{
-    nodes * exchange::step::fault_size(nodes, cells, actuators)
-}
-
 // Where the part of `size` from a place on ends, in bytes of a length.
 pub fn part_end(at: usize, len: usize, size: usize) -> usize
     requires { ⌜ at ≤ len ⌝ }
@@ -188,20 +176,6 @@ pub fn part_end(at: usize, len: usize, size: usize) -> usize
         return len;
     }
     at + size
-}
-
-// Every byte equals x.
-fn spread(bytes: &mut [u8], x: u64)
-    requires { ⌜ x ≤ 255 ⌝ }
-    ensures { λ _. ⌜ now (bytes .exit) ≡ replicate (length (now (bytes .entry))) x ⌝ }
-{
-    let n = bytes.len();
-    let b = x as u8;
-    let mut i: usize = 0;
-    while i < n {
-        bytes[i] = b;
-        i += 1;
-    }
 }
 
 fn refused(system: System, single: Memory) -> Stepped
@@ -214,41 +188,61 @@ fn refused(system: System, single: Memory) -> Stepped
     }
 }
 
-// One frame: its line, the record and the single controller after it.
-fn advance(
-    plan: Plan,
-    period: usize,
-    system: System,
-    single: Memory,
+// The numbers of the line of a frame.
+fn frame_numbers(
     frame: usize,
-    sensors: &[u64],
-    mask: u64,
-    faults: &[u8],
-    out: &mut [u8],
-) -> Stepped
-    requires { ⌜ (accepted plan ≡ true) × (period ≡ periodOf plan) × (length (now sensors) ≡ plan .sensors) × (length (now faults) ≡ faultsSize plan) × (length (now out) ≡ printedSize (plan .actuators)) ⌝ }
-    ensures { λ r. ⌜ (r .taken ≡ true) × (r .system ≡ systemAfter plan system (now (sensors .entry)) mask (now (faults .entry))) × (r .single ≡ computed plan (now (sensors .entry)) single) × (now (out .exit) ≡ row (printedWidths (plan .actuators)) (frame ∷ howMany (isWorking plan system mask) (plan .nodes) ∷ agreeingOf plan (r .system) (r .single) ∷ placeAfter plan system (now (sensors .entry)) mask (now (faults .entry)) (replicate (plan .actuators) 0))) ⌝ }
+    line: &[u8],
+    nodes: usize,
+    sensors: usize,
+    patterns: &mut [u64; Plan::SENSORS],
+) -> LineRead
+    requires { ⌜ (nodes ≤ mostNodes) × (sensors ≤ mostSensors) ⌝ }
+    ensures { λ r. ⌜ lineRead r (take sensors (now (patterns .exit))) ≡ cond (ltb frame mostLines) (runNumbers nodes sensors (now (line .entry))) none ⌝ }
 {
-    let actuators = plan.actuators;
-    let working = frame::step::working(plan, period, system, mask);
+    if LINES <= frame {
+        return LineRead::Refused;
+    }
+    read_line(line, nodes, sensors, patterns)
+}
+
+// The frame of rows that have run their tasks, and its line.
+fn finish_line<'a>(
+    voted: &'a [bool; Plan::VOTES],
+    table: &'a [usize; Plan::ACTUATORS],
+    nodes: usize,
+    frames: usize,
+    count: usize,
+    actuators: usize,
+    period: usize,
+    mask: u64,
+    fill: u64,
+    frame: usize,
+    counters: &mut [u16],
+    cells: &mut [u64],
+    good: &mut [u16; System::NODES],
+    out: &mut [u8],
+)
+    requires { ⌜ (length (now counters) ≡ rowCount) × (length (now cells) ≡ wordCount) × (0 < nodes) × (nodes ≤ mostNodes) × (0 < frames) × (frames ≤ mostFrames) × (count ≤ mostCells) × (period < 65536) × (fill ≤ 255) × (actuators ≤ mostActuators) × ((a : ℕ) → a < actuators → getD (now table) a 0 < mostCells) × (length (now out) ≡ printedSize actuators) ⌝ }
+    ensures { λ _. ⌜ ((p : Plan) (sys : System) (single : Memory) (sensors : List ℕ) → Lent p (now (voted .entry)) (now (table .entry)) nodes frames count → p .actuators ≡ actuators → period ≡ periodOf p → Ready p sys single sensors (now (counters .entry)) (now (cells .entry)) (now (good .entry)) → Rows (systemNext p sys (mask ∷ fill ∷ sensors)) (singleNext p single (mask ∷ fill ∷ sensors)) (now (counters .exit)) (now (cells .exit)) (now (good .exit)) × (now (out .exit) ≡ frameLine p sys single frame (mask ∷ fill ∷ sensors))) ⌝ }
+{
+    let working = rows::step::working(good, nodes, period, mask);
     let mut planes = [0u64; Plan::ACTUATORS];
-    let next = frame::step::frame(
-        plan,
+    rows::step::finish(
+        voted,
+        table,
+        nodes,
+        frames,
+        count,
         period,
-        system,
-        sensors,
         mask,
-        faults,
+        fill,
+        counters,
+        cells,
+        good,
         &mut planes[0..actuators],
     );
-    let memory = node::step::compute(plan, single, sensors);
-    let agreeing = frame::step::agreeing(plan, next, memory);
+    let agreeing = rows::step::agreeing(counters, cells, nodes, count);
     write_frame(out, frame, working, agreeing, &planes, actuators);
-    Stepped {
-        taken: true,
-        system: next,
-        single: memory,
-    }
 }
 
 // One line of a run: a frame, or nothing where the line is refused.
@@ -259,33 +253,45 @@ pub fn line(
     single: Memory,
     frame: usize,
     line: &[u8],
-    faults: &mut [u8],
     out: &mut [u8],
 ) -> Stepped
-    requires { ⌜ (accepted plan ≡ true) × (period ≡ periodOf plan) × (length (now faults) ≡ faultsSize plan) × (length (now out) ≡ printedSize (plan .actuators)) ⌝ }
-    ensures { λ r. ⌜ (r ≡ stepAnswer plan system single (lineNumbers plan frame (now (line .entry)))) × (now (out .exit) ≡ stepPlace plan system single frame (lineNumbers plan frame (now (line .entry))) (now (out .entry))) × (now (faults .exit) ≡ stepFaults plan system (lineNumbers plan frame (now (line .entry))) (now (faults .entry))) ⌝ }
+    requires { ⌜ (accepted plan ≡ true) × (period ≡ periodOf plan) × (length (now out) ≡ printedSize (plan .actuators)) ⌝ }
+    ensures { λ r. ⌜ (r ≡ stepAnswer plan system single (lineNumbers plan frame (now (line .entry)))) × (now (out .exit) ≡ stepPlace plan system single frame (lineNumbers plan frame (now (line .entry))) (now (out .entry))) ⌝ }
 {
-    if LINES <= frame {
-        return refused(system, single);
-    }
-    let nodes = plan.nodes;
     let sensors = plan.sensors;
     let mut patterns = [0u64; Plan::SENSORS];
-    let LineRead::Whole(mask, fill) = read_line(line, nodes, sensors, &mut patterns) else {
+    let LineRead::Whole(mask, fill) = frame_numbers(frame, line, plan.nodes, sensors, &mut patterns)
+    else {
         return refused(system, single);
     };
-    spread(faults, fill);
-    advance(
-        plan,
+    let mut good = system.good;
+    let mut counters = [0u16; rows::step::ROWS];
+    let mut cells = [0u64; rows::step::WORDS];
+    rows::step::unpack(system, single, &mut counters, &mut cells);
+    rows::step::compute(plan, &patterns[0..sensors], &mut counters, &mut cells);
+    finish_line(
+        &plan.voted,
+        &plan.actuator_cell,
+        plan.nodes,
+        plan.frames,
+        plan.cells,
+        plan.actuators,
         period,
-        system,
-        single,
-        frame,
-        &patterns[0..sensors],
         mask,
-        faults,
+        fill,
+        frame,
+        &mut counters,
+        &mut cells,
+        &mut good,
         out,
-    )
+    );
+    let after = rows::step::pack_system(&counters, &cells, good);
+    let memory = rows::step::pack_single(&counters, &cells);
+    Stepped {
+        taken: true,
+        system: after,
+        single: memory,
+    }
 }
 
 // What stands where a run stops.
@@ -294,12 +300,16 @@ fn stopped(
     count: usize,
     plan: Plan,
     period: usize,
-    system: System,
-    single: Memory,
+    counters: &[u16],
+    cells: &[u64],
+    good: [u16; System::NODES],
     frame: usize,
 ) -> Printed
-    ensures { λ r. ⌜ r ≡ printedWith answer count plan period system single frame ⌝ }
+    requires { ⌜ (length (now counters) ≡ rowCount) × (length (now cells) ≡ wordCount) ⌝ }
+    ensures { λ r. ⌜ ((sys : System) (single : Memory) → Rows sys single (now (counters .entry)) (now (cells .entry)) good → r ≡ printedWith answer count plan period sys single frame) ⌝ }
 {
+    let system = rows::step::pack_system(counters, cells, good);
+    let single = rows::step::pack_single(counters, cells);
     let run = Run {
         plan,
         period,
@@ -310,52 +320,77 @@ fn stopped(
     Printed { answer, count, run }
 }
 
-// The lines of a part of a run, at most BLOCK of them, until one is refused.
+// The lines of a part of a run, at most BLOCK of them, until one is refused. The frames go over rows, which are lent to every step.
 pub fn lines(run: Run, rest: &[u8], out: &mut [u8]) -> Printed
     requires { ⌜ (accepted (run .plan) ≡ true) × (run .period ≡ periodOf (run .plan)) × (run .frame ≤ mostLines) × (length (now rest) ≤ blockLines * runLineSize (run .plan .sensors)) × (blockLines * printedSize (run .plan .actuators) ≤ length (now out)) ⌝ }
     ensures { λ r. ⌜ (r ≡ linesAnswer run (now (rest .entry))) × (now (out .exit) ≡ linesPlace run (now (rest .entry)) (now (out .entry))) ⌝ }
 {
     let plan = run.plan;
     let period = run.period;
-    let mut system = run.system;
-    let mut single = run.single;
+    let system = run.system;
+    let single = run.single;
     let first = run.frame;
-    let size = line_size(plan.sensors);
+    let sensors = plan.sensors;
+    let size = line_size(sensors);
     let width = printed_size(plan.actuators);
     let len = rest.len();
-    let need = faults_size(plan.nodes, plan.cells, plan.actuators);
-    let mut faults = [0u8; FAULTS];
+    let mut good = system.good;
+    let mut counters = [0u16; rows::step::ROWS];
+    let mut cells = [0u64; rows::step::WORDS];
+    rows::step::unpack(system, single, &mut counters, &mut cells);
+    let mut patterns = [0u64; Plan::SENSORS];
     let mut k: usize = 0;
     let mut at: usize = 0;
     let mut to: usize = 0;
     while at < len {
         let end = part_end(at, len, size);
-        let s = line(
-            plan,
-            period,
-            system,
-            single,
+        let LineRead::Whole(mask, fill) = frame_numbers(
             first + k,
             &rest[at..end],
-            &mut faults[0..need],
-            &mut out[to..to + width],
-        );
-        if !s.taken {
+            plan.nodes,
+            sensors,
+            &mut patterns,
+        ) else {
             return stopped(
                 Answer::RunLine(first + k + 1),
                 to,
                 plan,
                 period,
-                system,
-                single,
+                &counters,
+                &cells,
+                good,
                 first + k,
             );
-        }
-        system = s.system;
-        single = s.single;
+        };
+        rows::step::compute(plan, &patterns[0..sensors], &mut counters, &mut cells);
+        finish_line(
+            &plan.voted,
+            &plan.actuator_cell,
+            plan.nodes,
+            plan.frames,
+            plan.cells,
+            plan.actuators,
+            period,
+            mask,
+            fill,
+            first + k,
+            &mut counters,
+            &mut cells,
+            &mut good,
+            &mut out[to..to + width],
+        );
         k += 1;
         at += size;
         to += width;
     }
-    stopped(Answer::Done, to, plan, period, system, single, first + k)
+    stopped(
+        Answer::Done,
+        to,
+        plan,
+        period,
+        &counters,
+        &cells,
+        good,
+        first + k,
+    )
 }

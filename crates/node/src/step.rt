@@ -59,6 +59,17 @@ pub fn run_task(cells: &mut [u64; Plan::CELLS], t: Task, sensors: &[u64])
     cells[target] = v;
 }
 
+// The same on a part that holds a memory's cells.
+pub fn run_task_in(cells: &mut [u64], t: Task, sensors: &[u64])
+    requires { ⌜ t .target < length (now cells) ⌝ }
+    ensures { λ _. ⌜ now (cells .exit) ≡ set (now (cells .entry)) (t .target) (opValue (t .op) (t .target) (now (sensors .entry)) (now (cells .entry))) ⌝ }
+{
+    let op = t.op;
+    let target = t.target;
+    let v = op_value(op, target, sensors, cells);
+    cells[target] = v;
+}
+
 // The tasks stand by frame, so the first of a later one ends the scan.
 pub fn compute(plan: Plan, memory: Memory, sensors: &[u64]) -> Memory
     requires { ⌜ (accepted plan ≡ true) × (length (now sensors) ≡ plan .sensors) ⌝ }

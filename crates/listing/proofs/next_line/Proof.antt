@@ -2,12 +2,11 @@
 use mathlib.Core.Path.{_≡_, ap, _∙_}
 use Prim.Native.Nat.{ℕ, _+_, _-_, min}
 use native.Mathlib.Omega.{arith}
-use lib.ListN.{length, take, replicate, length-replicate}
+use lib.ListN.{length, take}
 use borrow.Author.Tests.{not-true, not-false}
 use Rattle.plan.proofs.AcceptedLaws.{shape-of-accepted}
 use Rattle.listing.specs.Line.{runLineSize}
-use Rattle.listing.specs.Step.{mostFaults}
-use Rattle.listing.proofs.StepLaws.{first-line, faults-front}
+use Rattle.listing.proofs.StepLaws.{first-line}
 use Rattle.listing.proofs.CallLaws.{line-refused, line-in-range, line-done}
 use borrow.Author.Needs.{needs}
 use Rattle.listing.proofs.next_line.Statement.{statement}
@@ -16,41 +15,35 @@ use Rattle.listing.proofs.next_line.Tie as tie
 line-size-requires : tie.Need-line-size-requires
 line-size-requires c κs = shape-of-accepted _ (c .before .before .before .before .before .pre .0) .sensors-le
 
-faults-size-requires : tie.Need-faults-size-requires
-faults-size-requires c κs = let s = shape-of-accepted (c .before .before .before .before .before .before .before .args .run .plan) (c .before .before .before .before .before .before .before .pre .0) in (s .nodes-high, s .cells-le, s .actuators-le)
-
 line-requires : tie.Need-line-requires
-line-requires c κs =
-    let z : ℕ = 0 in
-    let n = c .before .before .before .faults-size in
-    (c .before .before .before .before .before .before .before .before .before .before .before .pre .0, c .before .before .before .before .before .before .before .before .before .before .before .pre .1, faults-front (n .result) (n .ensures .1) (replicate mostFaults 0) (length-replicate mostFaults z) ∙ n .ensures .0, c .before .before .before .before .before .before .before .before .before .before .before .pre .2)
+line-requires c κs = (c .before .before .before .before .before .before .before .before .before .pre .0, c .before .before .before .before .before .before .before .before .before .pre .1, c .before .before .before .before .before .before .before .before .before .pre .2)
 
 returns : tie.Need-returns
 returns c =
-    let a = c .before .before .before .before .before .before .before .before .before .before .before .before .before .before .before .before .before .before .before .args in
+    let a = c .before .before .before .before .before .before .before .before .before .before .before .before .before .before .before .before .args in
     let r = a .run in
-    let size = c .before .before .before .before .before .before .before .before .before .before .before .before .before .line-size in
-    let q = c .before .before .before .before .before .before .before .before .before .before .before .before .before .before .before .before .before .before .before .pre in
-    let same : take (c .before .before .before .before .before .before .before .before .before .before .before .before .part-end .result - 0) (a .rest .now) ≡ take (runLineSize (r .plan .sensors)) (a .rest .now) = first-line (a .rest .now) (runLineSize (r .plan .sensors)) (c .before .before .before .before .before .before .before .before .before .before .before .before .part-end .ensures ∙ ap (λ (n : ℕ). min (0 + n) (length (a .rest .now))) (size .ensures)) in
-    line-refused r (a .rest .now) (a .out .now) _ _ (c .before .before .before .before .before .before .before .line .result) (q .2) same (c .before .before .before .before .before .before .before .line .ensures .0) (c .before .before .before .before .before .before .before .line .ensures .1) (c .nothing .result) (not-true _ (c .before .before .if1 .taken)) (c .nothing .ensures .0 ∙ c .before .refused-line .ensures, c .nothing .ensures .1, c .nothing .ensures .2)
+    let size = c .before .before .before .before .before .before .before .before .before .before .line-size in
+    let q = c .before .before .before .before .before .before .before .before .before .before .before .before .before .before .before .before .pre in
+    let same : take (c .before .before .before .before .before .before .before .before .before .part-end .result - 0) (a .rest .now) ≡ take (runLineSize (r .plan .sensors)) (a .rest .now) = first-line (a .rest .now) (runLineSize (r .plan .sensors)) (c .before .before .before .before .before .before .before .before .before .part-end .ensures ∙ ap (λ (n : ℕ). min (0 + n) (length (a .rest .now))) (size .ensures)) in
+    line-refused r (a .rest .now) (a .out .now) _ _ (c .before .before .before .before .before .before .line .result) (q .2) same (c .before .before .before .before .before .before .line .ensures .0) (c .before .before .before .before .before .before .line .ensures .1) (c .nothing .result) (not-true _ (c .before .before .if1 .taken)) (c .nothing .ensures .0 ∙ c .before .refused-line .ensures, c .nothing .ensures .1, c .nothing .ensures .2)
 
-add-t17 : tie.Need-add-t17
-add-t17 c =
-    let a = c .before .before .before .before .before .before .before .before .before .before .before .before .before .before .before .before .before .before .before .args in
+add-t15 : tie.Need-add-t15
+add-t15 c =
+    let a = c .before .before .before .before .before .before .before .before .before .before .before .before .before .before .before .before .args in
     let r = a .run in
-    let size = c .before .before .before .before .before .before .before .before .before .before .before .before .before .line-size in
-    let q = c .before .before .before .before .before .before .before .before .before .before .before .before .before .before .before .before .before .before .before .pre in
-    let same : take (c .before .before .before .before .before .before .before .before .before .before .before .before .part-end .result - 0) (a .rest .now) ≡ take (runLineSize (r .plan .sensors)) (a .rest .now) = first-line (a .rest .now) (runLineSize (r .plan .sensors)) (c .before .before .before .before .before .before .before .before .before .before .before .before .part-end .ensures ∙ ap (λ (n : ℕ). min (0 + n) (length (a .rest .now))) (size .ensures)) in
-    omega (arith, line-in-range r (a .rest .now) (a .out .now) _ _ (c .before .before .before .before .before .before .before .line .result) (q .2) same (c .before .before .before .before .before .before .before .line .ensures .0) (c .before .before .before .before .before .before .before .line .ensures .1) (not-false _ (c .before .before .if1 .left)))
+    let size = c .before .before .before .before .before .before .before .before .before .before .line-size in
+    let q = c .before .before .before .before .before .before .before .before .before .before .before .before .before .before .before .before .pre in
+    let same : take (c .before .before .before .before .before .before .before .before .before .part-end .result - 0) (a .rest .now) ≡ take (runLineSize (r .plan .sensors)) (a .rest .now) = first-line (a .rest .now) (runLineSize (r .plan .sensors)) (c .before .before .before .before .before .before .before .before .before .part-end .ensures ∙ ap (λ (n : ℕ). min (0 + n) (length (a .rest .now))) (size .ensures)) in
+    omega (arith, line-in-range r (a .rest .now) (a .out .now) _ _ (c .before .before .before .before .before .before .line .result) (q .2) same (c .before .before .before .before .before .before .line .ensures .0) (c .before .before .before .before .before .before .line .ensures .1) (not-false _ (c .before .before .if1 .left)))
 
 returns-2 : tie.Need-returns-2
 returns-2 c =
-    let a = c .before .before .before .before .before .before .before .before .before .before .before .before .before .before .before .before .before .before .before .args in
+    let a = c .before .before .before .before .before .before .before .before .before .before .before .before .before .before .before .before .args in
     let r = a .run in
-    let size = c .before .before .before .before .before .before .before .before .before .before .before .before .before .line-size in
-    let q = c .before .before .before .before .before .before .before .before .before .before .before .before .before .before .before .before .before .before .before .pre in
-    let same : take (c .before .before .before .before .before .before .before .before .before .before .before .before .part-end .result - 0) (a .rest .now) ≡ take (runLineSize (r .plan .sensors)) (a .rest .now) = first-line (a .rest .now) (runLineSize (r .plan .sensors)) (c .before .before .before .before .before .before .before .before .before .before .before .before .part-end .ensures ∙ ap (λ (n : ℕ). min (0 + n) (length (a .rest .now))) (size .ensures)) in
-    line-done r (a .rest .now) (a .out .now) _ _ (c .before .before .before .before .before .before .before .line .result) (q .2) same (c .before .before .before .before .before .before .before .line .ensures .0) (c .before .before .before .before .before .before .before .line .ensures .1) (a .period) (not-false _ (c .before .before .if1 .left)) (q .1)
+    let size = c .before .before .before .before .before .before .before .before .before .before .line-size in
+    let q = c .before .before .before .before .before .before .before .before .before .before .before .before .before .before .before .before .pre in
+    let same : take (c .before .before .before .before .before .before .before .before .before .part-end .result - 0) (a .rest .now) ≡ take (runLineSize (r .plan .sensors)) (a .rest .now) = first-line (a .rest .now) (runLineSize (r .plan .sensors)) (c .before .before .before .before .before .before .before .before .before .part-end .ensures ∙ ap (λ (n : ℕ). min (0 + n) (length (a .rest .now))) (size .ensures)) in
+    line-done r (a .rest .now) (a .out .now) _ _ (c .before .before .before .before .before .before .line .result) (q .2) same (c .before .before .before .before .before .before .line .ensures .0) (c .before .before .before .before .before .before .line .ensures .1) (a .period) (not-false _ (c .before .before .if1 .left)) (q .1)
 
 pub next-line-spec : {M : Type 1} → statement M
 next-line-spec =
@@ -58,10 +51,6 @@ next-line-spec =
     (tie.spec
     line-size-requires
     (λ c κs. search needs)
-    faults-size-requires
-    (λ c. search needs)
-    (λ c. search needs)
-    (λ c. search needs)
     (λ c. search needs)
     (λ c. search needs)
     (λ c. search needs)
@@ -70,6 +59,6 @@ next-line-spec =
     (λ c κs. search needs)
     (λ c. search needs)
     returns
-    add-t17
+    add-t15
     (λ c. search needs)
     returns-2)

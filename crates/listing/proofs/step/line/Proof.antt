@@ -1,88 +1,129 @@
--- `listing::step::line` meets its contract.
-use mathlib.Core.Path.{_≡_, refl, sym, ap, _∙_}
+-- `listing::step::line` meets its contract: the numbers are refused, or the frame is run on rows.
+use mathlib.Core.Path.{_≡_, refl, _∙_, subst}
 use mathlib.Core.List.{List, _∷_}
 use Prim.Native.Nat.{ℕ, _-_}
 use native.Mathlib.Omega.{arith}
-use lib.ListN.{length, take, length-replicate}
-use Rattle.plan.proofs.AcceptedLaws.{shape-of-accepted}
-use Rattle.listing.proofs.StepLaws.{line-late, line-early, read-told, read-refused, numbers-within, take-fits, faults-filled, step-refused, step-taken}
+use lib.ListN.{length, take}
 use borrow.Author.Needs.{needs}
+use Rattle.plan.proofs.AcceptedLaws.{shape-of-accepted}
+use Rattle.frame.proofs.FrameLaws.{period-small}
+use Rattle.listing.specs.Listing.{lineNumbers}
+use Rattle.listing.proofs.StepLaws.{take-fits, step-refused, step-taken}
+use Rattle.listing.proofs.RowsLaws.{ready-is, numbers-told, numbers-refused, lent-of, told-within, numbers-cut}
 use Rattle.listing.proofs.step.line.Statement.{statement}
 use Rattle.listing.proofs.step.line.Tie as tie
 
--- src/step.rt:143:9
--- src/step.rt:143:9
+frame-numbers-requires : tie.Need-frame-numbers-requires
+frame-numbers-requires c κs = let s = shape-of-accepted (c .before .before .before .args .t1) (c .before .before .before .pre .0) in (s .nodes-high, s .sensors-le)
+
 returns : tie.Need-returns
-returns c = step-refused (c .before .before .before .before .before .args .plan) (c .before .before .before .before .before .args .system) (c .before .before .before .before .before .args .single) (c .before .before .before .before .before .args .frame) (c .refused .result) _ _ _ (line-late (c .before .before .before .before .before .args .plan) (c .before .before .before .before .before .args .frame) (c .before .before .before .before .before .args .line .now) (c .before .if1 .taken)) (c .refused .ensures)
+unfolding lineNumbers
+returns c = let a = c .before .before .before .before .before .before .before .args in
+    let p = a .t1 in
+    let q = c .before .before .before .before .before .before .before .pre in
+    let s = shape-of-accepted p (q .0) in
+    let at : List ℕ = a .line .now in
+    let patterns : List ℕ = c .before .before .before .frame-numbers .last .1 .1 .1 .1 .0 in
+    step-refused p (a .system) (a .single) (a .frame) (c .refused .result) (a .out .now) (lineNumbers p (a .frame) at)
+    (numbers-refused p (a .frame) at (take (p .sensors) patterns) (c .before .enum-told .given .1) (c .before .before .before .frame-numbers .ensures))
+    (c .refused .ensures)
 
--- src/step.rt:148:39
-read-line-requires : tie.Need-read-line-requires
-read-line-requires c κs = let s = shape-of-accepted (c .before .before .before .before .before .args .plan) (c .before .before .before .before .before .pre .0) in (s .nodes-high, s .sensors-le)
+part-compute-end : tie.Need-part-compute-end
+unfolding lineNumbers
+part-compute-end c = let a = c .before .before .before .before .before .before .before .before .before .before .before .before .before .before .args in
+    let p = a .t1 in
+    let q = c .before .before .before .before .before .before .before .before .before .before .before .before .before .before .pre in
+    let s = shape-of-accepted p (q .0) in
+    let at : List ℕ = a .line .now in
+    let patterns : List ℕ = c .before .before .before .before .before .before .before .before .before .before .frame-numbers .last .1 .1 .1 .1 .0 in
+    let z : p .sensors - 0 ≡ p .sensors = omega arith in
+    let vs : List ℕ = take (p .sensors - 0) patterns in
+    let o = numbers-told p (a .frame) at vs (c .before .before .before .before .before .before .before .before .mask .given .1) (numbers-cut p (a .frame) at patterns (c .before .before .before .before .before .before .before .before .before .before .frame-numbers .result) z (c .before .before .before .before .before .before .before .before .before .before .frame-numbers .ensures)) in
+    let within = told-within p (a .frame) at vs o in
+    take-fits (p .sensors) patterns (subst (λ (n : ℕ). length (take n patterns) ≡ p .sensors) z (within .count))
 
--- src/step.rt:148:25
--- src/step.rt:150:9
--- src/step.rt:150:9
--- src/step.rt:150:9
-returns-2 : tie.Need-returns-2
-returns-2 c =
-    let a = c .before .before .before .before .before .before .before .before .before .args in
-    let vs : List ℕ = take (a .plan .sensors) (c .before .before .before .read-line .last .1 .1 .1 .0) in
-    step-refused (a .plan) (a .system) (a .single) (a .frame) (c .refused2 .result) _ _ _ (line-early (a .plan) (a .frame) (a .line .now) (c .before .before .before .before .before .if1 .left) ∙ read-refused (a .plan .nodes) (a .plan .sensors) (a .line .now) vs (c .before .enum-told .given .1) (c .before .before .before .read-line .ensures)) (c .refused2 .ensures)
-
--- src/step.rt:152:5
-spread-requires : tie.Need-spread-requires
-spread-requires c κs =
-    let a = c .before .before .before .before .before .before .before .before .before .before .args in
-    let vs : List ℕ = take (a .plan .sensors) (c .before .before .before .before .read-line .last .1 .1 .1 .0) in
-    numbers-within (a .plan .nodes) (a .plan .sensors) (a .line .now) (read-told (a .plan .nodes) (a .plan .sensors) (a .line .now) vs (c .before .before .mask .given .1) (c .before .before .before .before .read-line .ensures)) .small
-
--- src/step.rt:159:9
--- src/step.rt:159:9
--- src/step.rt:159:9
-part-advance-end : tie.Need-part-advance-end
-part-advance-end c =
-    let a = c .before .before .before .before .before .before .before .before .before .before .before .before .before .before .args in
-    let vs : List ℕ = take (a .plan .sensors) (c .before .before .before .before .before .before .before .before .read-line .last .1 .1 .1 .0) in
-    take-fits (a .plan .sensors) (c .before .before .before .before .before .before .before .before .read-line .last .1 .1 .1 .0) (numbers-within (a .plan .nodes) (a .plan .sensors) (a .line .now) (read-told (a .plan .nodes) (a .plan .sensors) (a .line .now) vs (c .before .before .before .before .before .before .mask .given .1) (c .before .before .before .before .before .before .before .before .read-line .ensures)) .count)
-
--- src/step.rt:153:5
-advance-requires : tie.Need-advance-requires
-advance-requires c κs =
-    let a = c .before .before .before .before .before .before .before .before .before .before .before .before .before .before .before .before .before .args in
+compute-requires : tie.Need-compute-requires
+unfolding lineNumbers
+compute-requires c κs = let a = c .before .before .before .before .before .before .before .before .before .before .before .before .before .before .before .before .before .args in
+    let p = a .t1 in
     let q = c .before .before .before .before .before .before .before .before .before .before .before .before .before .before .before .before .before .pre in
-    let vs : List ℕ = take (a .plan .sensors) (c .before .before .before .before .before .before .before .before .before .before .before .read-line .last .1 .1 .1 .0) in
-    let w = numbers-within (a .plan .nodes) (a .plan .sensors) (a .line .now) (read-told (a .plan .nodes) (a .plan .sensors) (a .line .now) vs (c .before .before .before .before .before .before .before .before .before .mask .given .1) (c .before .before .before .before .before .before .before .before .before .before .before .read-line .ensures)) in
-    let z : a .plan .sensors - 0 ≡ a .plan .sensors = omega arith in
-    (q .0, q .1, rw z (w .count), ap length (c .before .before .before .before .before .before .spread .ensures) ∙ length-replicate _ _ ∙ q .2, q .3)
+    let s = shape-of-accepted p (q .0) in
+    let at : List ℕ = a .line .now in
+    let patterns : List ℕ = c .before .before .before .before .before .before .before .before .before .before .before .before .before .frame-numbers .last .1 .1 .1 .1 .0 in
+    let z : p .sensors - 0 ≡ p .sensors = omega arith in
+    let vs : List ℕ = take (p .sensors - 0) patterns in
+    let o = numbers-told p (a .frame) at vs (c .before .before .before .before .before .before .before .before .before .before .before .mask .given .1) (numbers-cut p (a .frame) at patterns (c .before .before .before .before .before .before .before .before .before .before .before .before .before .frame-numbers .result) z (c .before .before .before .before .before .before .before .before .before .before .before .before .before .frame-numbers .ensures)) in
+    let within = told-within p (a .frame) at vs o in
+    (c .before .before .before .before .before .before .unpack .kept .1 .1 .0, c .before .before .before .before .before .before .unpack .kept .1 .1 .1 .0, q .0, within .count)
 
--- src/step.rt:129:1
--- src/step.rt:129:1
--- src/step.rt:129:1
-returns-3 : tie.Need-returns-3
-returns-3 c =
-    let a = c .before .before .before .before .before .before .before .before .before .before .before .before .before .before .before .before .before .before .before .before .args in
-    let q = c .before .before .before .before .before .before .before .before .before .before .before .before .before .before .before .before .before .before .before .before .pre in
-    let vs : List ℕ = take (a .plan .sensors) (c .before .before .before .before .before .before .before .before .before .before .before .before .before .before .read-line .last .1 .1 .1 .0) in
-    let t = read-told (a .plan .nodes) (a .plan .sensors) (a .line .now) vs (c .before .before .before .before .before .before .before .before .before .before .before .before .mask .given .1) (c .before .before .before .before .before .before .before .before .before .before .before .before .before .before .read-line .ensures) in
-    let z : a .plan .sensors - 0 ≡ a .plan .sensors = omega arith in
-    step-taken (a .plan) (a .system) (a .single) (a .frame) (c .before .before .advance .result) _ (a .faults .now) _ _ (a .out .now) _ _ (_ ∷ _ ∷ vs) (line-early (a .plan) (a .frame) (a .line .now) (c .before .before .before .before .before .before .before .before .before .before .before .before .before .before .before .before .if1 .left) ∙ sym t) (rw z) refl (c .before .before .before .before .before .before .before .before .before .spread .ensures ∙ faults-filled (a .plan) (a .system) (_ ∷ _ ∷ vs) (a .faults .now) (q .2)) (c .before .before .advance .ensures)
+finish-line-requires : tie.Need-finish-line-requires
+unfolding lineNumbers
+finish-line-requires c κs = let a = c .before .before .before .before .before .before .before .before .before .before .before .before .before .before .before .before .before .before .before .before .before .before .before .before .before .before .before .args in
+    let p = a .t1 in
+    let q = c .before .before .before .before .before .before .before .before .before .before .before .before .before .before .before .before .before .before .before .before .before .before .before .before .before .before .before .pre in
+    let s = shape-of-accepted p (q .0) in
+    let at : List ℕ = a .line .now in
+    let patterns : List ℕ = c .before .before .before .before .before .before .before .before .before .before .before .before .before .before .before .before .before .before .before .before .before .before .before .frame-numbers .last .1 .1 .1 .1 .0 in
+    let z : p .sensors - 0 ≡ p .sensors = omega arith in
+    let vs : List ℕ = take (p .sensors - 0) patterns in
+    let o = numbers-told p (a .frame) at vs (c .before .before .before .before .before .before .before .before .before .before .before .before .before .before .before .before .before .before .before .before .before .mask .given .1) (numbers-cut p (a .frame) at patterns (c .before .before .before .before .before .before .before .before .before .before .before .before .before .before .before .before .before .before .before .before .before .before .before .frame-numbers .result) z (c .before .before .before .before .before .before .before .before .before .before .before .before .before .before .before .before .before .before .before .before .before .before .before .frame-numbers .ensures)) in
+    let within = told-within p (a .frame) at vs o in (
+      c .before .before .before .before .before .before .before .before .before .compute .kept .1 .1 .0 ∙ c .before .before .before .before .before .before .before .before .before .before .before .before .before .before .before .before .unpack .kept .1 .1 .0,
+      c .before .before .before .before .before .before .before .before .before .compute .kept .1 .1 .1 .0 ∙ c .before .before .before .before .before .before .before .before .before .before .before .before .before .before .before .before .unpack .kept .1 .1 .1 .0,
+      omega (arith, s .nodes-low),
+      s .nodes-high,
+      s .frames-pos,
+      s .frames-le,
+      s .cells-le,
+      period-small p (q .0) (q .1),
+      within .small,
+      s .actuators-le,
+      (λ j h. omega (arith, s .actuator j h, s .cells-le)),
+      q .2,
+    )
+
+returns-2 : tie.Need-returns-2
+unfolding lineNumbers
+returns-2 c = let a = c .before .before .before .before .before .before .before .before .before .before .before .before .before .before .before .before .before .before .before .before .before .before .before .before .before .before .before .before .before .before .before .before .before .before .before .before .before .before .args in
+    let p = a .t1 in
+    let q = c .before .before .before .before .before .before .before .before .before .before .before .before .before .before .before .before .before .before .before .before .before .before .before .before .before .before .before .before .before .before .before .before .before .before .before .before .before .before .pre in
+    let s = shape-of-accepted p (q .0) in
+    let at : List ℕ = a .line .now in
+    let patterns : List ℕ = c .before .before .before .before .before .before .before .before .before .before .before .before .before .before .before .before .before .before .before .before .before .before .before .before .before .before .before .before .before .before .before .before .before .before .frame-numbers .last .1 .1 .1 .1 .0 in
+    let z : p .sensors - 0 ≡ p .sensors = omega arith in
+    let vs : List ℕ = take (p .sensors - 0) patterns in
+    let o = numbers-told p (a .frame) at vs (c .before .before .before .before .before .before .before .before .before .before .before .before .before .before .before .before .before .before .before .before .before .before .before .before .before .before .before .before .before .before .before .before .mask .given .1) (numbers-cut p (a .frame) at patterns (c .before .before .before .before .before .before .before .before .before .before .before .before .before .before .before .before .before .before .before .before .before .before .before .before .before .before .before .before .before .before .before .before .before .before .frame-numbers .result) z (c .before .before .before .before .before .before .before .before .before .before .before .before .before .before .before .before .before .before .before .before .before .before .before .before .before .before .before .before .before .before .before .before .before .before .frame-numbers .ensures)) in
+    let within = told-within p (a .frame) at vs o in
+    let ready = ready-is p (a .system) (a .single) vs (c .before .before .before .before .before .before .before .before .before .before .before .before .before .before .before .before .before .before .before .before .before .before .before .before .before .before .before .unpack .last .1 .1 .0) (c .before .before .before .before .before .before .before .before .before .before .before .before .before .before .before .before .before .before .before .before .before .before .before .before .before .before .before .unpack .last .1 .1 .1 .0) (a .system .good) (c .before .before .before .before .before .before .before .before .before .before .before .before .before .before .before .before .before .before .before .before .compute .last .1 .1 .0) (c .before .before .before .before .before .before .before .before .before .before .before .before .before .before .before .before .before .before .before .before .compute .last .1 .1 .1 .0) (s .nodes-high) (c .before .before .before .before .before .before .before .before .before .before .before .before .before .before .before .before .before .before .before .before .before .before .before .before .before .before .before .unpack .ensures) (c .before .before .before .before .before .before .before .before .before .before .before .before .before .before .before .before .before .before .before .before .compute .ensures) in
+    let f = c .before .before .before .before .before .before .before .before .before .before .finish-line .ensures p (a .system) (a .single) vs (lent-of p (q .0)) refl (q .1) ready in
+    step-taken p (a .system) (a .single) (a .frame) _ _ (lineNumbers p (a .frame) at) (a .out .now) (_ ∷ _ ∷ vs) o refl (c .before .before .before .pack-system .ensures _ _ (f .0)) (c .pack-single .ensures ∙ f .0 .single-is) (f .1)
 
 pub line-spec : {M : Type 1} → statement M
 line-spec =
     tie.close
     (tie.spec
+    frame-numbers-requires
+    (λ c. search needs)
+    (λ c. search needs)
     (λ c κs. search needs)
     returns
-    read-line-requires
     (λ c. search needs)
     (λ c. search needs)
     (λ c κs. search needs)
-    returns-2
-    spread-requires
     (λ c. search needs)
     (λ c. search needs)
-    part-advance-end
-    advance-requires
+    part-compute-end
     (λ c. search needs)
     (λ c. search needs)
-    returns-3)
+    compute-requires
+    (λ c. search needs)
+    (λ c. search needs)
+    finish-line-requires
+    (λ c. search needs)
+    (λ c. search needs)
+    (λ c κs. search needs)
+    (λ c. search needs)
+    (λ c. search needs)
+    (λ c κs. search needs)
+    (λ c. search needs)
+    returns-2)

@@ -1,0 +1,34 @@
+-- `rows::step::put_memory` meets its contract: the counter and the part are stored.
+use mathlib.Core.Path.{_≡_, refl}
+use Prim.Native.Nat.{_+_, _-_, _*_}
+use native.Mathlib.Omega.{arith}
+use lib.ListN.{length}
+use borrow.Author.Needs.{needs}
+use Rattle.plan.specs.Limits.{mostCells}
+use Rattle.exchange.proofs.StepLaws.{length-mapped}
+use Rattle.rows.proofs.RowLaws.{stored-memory}
+use Rattle.rows.proofs.step.put_memory.Statement.{statement}
+use Rattle.rows.proofs.step.put_memory.Tie as tie
+
+returns : tie.Need-returns
+returns c = let a = c .before .before .before .before .before .before .before .args in
+    let n : length (a .m .cells) ≡ mostCells = search (needs, length-mapped) in
+    let z : mostCells * a .r + mostCells - mostCells * a .r ≡ mostCells = omega arith in
+    stored-memory (a .m) (a .counters .now) (a .cells .now) _ (a .r) refl z (omega (arith, c .before .before .before .before .before .before .before .pre .0, c .before .before .before .before .before .before .before .pre .2)) (omega (arith, c .before .before .before .before .before .before .before .pre .1, c .before .before .before .before .before .before .before .pre .2)) n (c .before .before .put-row .ensures)
+
+pub put-memory-spec : {M : Type 1} → statement M
+put-memory-spec =
+    tie.close
+    (tie.spec
+    (λ c. search needs)
+    (λ c. search needs)
+    (λ c. search needs)
+    (λ c. search needs)
+    (λ c. search needs)
+    (λ c. search needs)
+    (λ c. search needs)
+    (λ c. search needs)
+    (λ c κs. search needs)
+    (λ c. search needs)
+    (λ c. search needs)
+    returns)

@@ -1,0 +1,53 @@
+-- `rows::step::unpack` meets its contract: the first j memories stand in their rows.
+use mathlib.Core.Path.{_≡_}
+use Prim.Native.Nat.{_-_, _≤_}
+use native.Mathlib.Omega.{arith}
+use lib.ListN.{length}
+use borrow.Author.Needs.{needs}
+use Rattle.plan.specs.Limits.{mostNodes}
+use Rattle.exchange.proofs.StepLaws.{any-default, length-mapped}
+use Rattle.rows.specs.Rows.{rowCount, wordCount}
+use Rattle.rows.proofs.RowLaws.{Unpacked, unpacked-none, unpacked-next, rows-unpacked}
+use Rattle.rows.proofs.step.unpack.Statement.{statement}
+use Rattle.rows.proofs.step.unpack.Tie as tie
+
+abbrev Inv-loop : tie.InvT-loop
+Inv-loop counters₀ cells₀ system j₀ counters cells j = (j ≤ mostNodes) × (length counters ≡ rowCount) × (length cells ≡ wordCount) × Unpacked (system .memories) counters₀ cells₀ j counters cells
+
+abbrev μ-loop : tie.MeasureT-loop
+μ-loop counters₀ cells₀ system j₀ counters cells j = mostNodes - j
+
+loop-holds : tie.Need-loop-holds Inv-loop μ-loop
+loop-holds c = (search needs, search needs, search needs, unpacked-none (c .before .before .before .before .before .before .before .before .before .args .t1 .memories) (c .before .before .before .before .put-memory .last .1 .1 .0) (c .before .before .before .before .put-memory .last .1 .1 .1 .0))
+
+loop-again : tie.Need-loop-again Inv-loop μ-loop
+loop-again c = let a = c .before .before .before .before .before .before .before .before .before .before .before .before .before .before .before .before .before .before .before .args in
+    let l = c .before .before .before .before .before .before .before .before .before .loop in
+    let n : length (a .t1 .memories) ≡ mostNodes = search (needs, length-mapped) in
+    (search needs, search needs, search needs, unpacked-next (a .t1 .memories) (c .before .before .before .before .before .before .before .before .before .before .before .before .before .before .put-memory .last .1 .1 .0) (c .before .before .before .before .before .before .before .before .before .before .before .before .before .before .put-memory .last .1 .1 .1 .0) (l .j) (l .inv .3) (c .before .before .before .before .put-memory2 .ensures) (any-default (a .t1 .memories) (l .j) _ _ (omega (arith, c .before .before .before .before .before .before .before .before .loop-test .taken))))
+
+returns : tie.Need-returns Inv-loop μ-loop
+returns c = let a = c .before .before .before .before .before .before .before .before .before .before .before .args in
+    let l = c .before .loop in
+    let n : length (a .t1 .memories) ≡ mostNodes = search (needs, length-mapped) in
+    let e : l .j ≡ mostNodes = omega arith in
+    rows-unpacked (a .t1) n (l .inv .3) e (c .before .before .before .before .before .before .put-memory .ensures .here)
+
+pub unpack-spec : {M : Type 1} → statement M
+unpack-spec =
+    tie.close
+    (tie.spec
+    Inv-loop
+    μ-loop
+    (λ c κs. search needs)
+    loop-holds
+    (λ c. search needs)
+    (λ c. search needs)
+    (λ c. search needs)
+    (λ c κs. search needs)
+    (λ c. search needs)
+    (λ c. search needs)
+    loop-again
+    (λ c. search needs)
+    (λ c. search needs)
+    returns)
