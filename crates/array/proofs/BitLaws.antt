@@ -3,11 +3,12 @@ use mathlib.Core.Path.{_≡_, refl, sym, ap, _∙_, subst}
 use mathlib.Core.Bool.{Bool, true, false, _&&_, _||_}
 use Prim.Native.Nat.{ℕ, zero, suc, _+_, _-_, _*_, _/_, _%_, _^_, _≤_, _<_, min, max}
 use native.Mathlib.Omega.{arith}
-use native.Mathlib.Nat.{pow-succ', pow-zero, one-le-pow, two-pow-succ, zero-div, div-one, div-div-eq-div-mul, mod-lt}
+use native.Mathlib.Nat.{pow-succ', pow-zero, one-le-pow, two-pow-succ, zero-div, div-one, div-div-eq-div-mul, mod-lt, div-lt-iff-lt-mul}
 use lib.Dec.{eqb, ltb, leb, lit<, leb·suc-suc}
 use lib.Bits.{bitAnd, bitOr, and-shr, or-shr, and-mod, or-mod}
-use borrow.Author.Tests.{eqb-true, eqb-false, eq-eqb, ne-eqb, lt-ltb, le-ltb}
+use borrow.Author.Tests.{eqb-true, eqb-false, eq-eqb, ne-eqb, lt-ltb, le-ltb, ltb-true, ltb-false}
 use Rattle.array.specs.Bit.{bit}
+use Rattle.array.proofs.TestLaws.{split}
 
 -- one binary digit
 digit-and : (x y : ℕ) → x < 2 → y < 2 → eqb (bitAnd x y) 1 ≡ (eqb x 1 && eqb y 1)
@@ -75,3 +76,12 @@ bit-ones (suc n) (suc i) =
     let one : 1 ≤ 2 ^ n = one-le-pow n 2 (lit< tt) in
     let half : (2 ^ suc n - 1) / 2 ≡ 2 ^ n - 1 = omega (arith, two-pow-succ n) in
     bit-next (2 ^ suc n - 1) i ∙ ap (λ (w : ℕ). bit w i) half ∙ bit-ones n i ∙ sym (leb·suc-suc (suc i) n)
+
+-- ---- a mask of n bits
+
+pub mask-fits : (mask nodes : ℕ) → eqb (mask / 2 ^ nodes) 0 ≡ ltb mask (2 ^ nodes)
+mask-fits mask nodes =
+    let pos : 0 < 2 ^ nodes = one-le-pow nodes 2 (lit< tt) in
+    split (ltb mask (2 ^ nodes))
+    (λ t. rw t (eq-eqb (mask / 2 ^ nodes) 0 (let h : mask / 2 ^ nodes < 1 = div-lt-iff-lt-mul pos .1 (omega (arith, ltb-true mask (2 ^ nodes) t)) in omega arith)))
+    (λ t. rw t (ne-eqb (mask / 2 ^ nodes) 0 (λ z. let h : mask < 1 * 2 ^ nodes = div-lt-iff-lt-mul pos .0 (omega arith) in absurd (omega (arith, ltb-false mask (2 ^ nodes) t)))))

@@ -3,3 +3,5 @@ pub mod IndexLaws
 pub mod PlacesLaws
 pub mod WordLaws
 pub mod BitLaws
+pub mod PlacedLaws
+pub mod LoopLaws

@@ -3,3 +3,4 @@ pub mod WritingLaws
 pub mod DigitsLaws
 pub mod ColumnLaws
 pub mod RowLaws
+pub mod LaidLaws

@@ -10,7 +10,10 @@ use lib.ListN.{length, getD, take, drop, length-append, take-append-drop, drop-o
 use lib.Seq.{slice, length-slice, length-take-le, drop-append-le, drop-cons, take-append-add, take-at, drop-at, getD-at}
 use borrow.Author.Tests.{eqb-true, eq-eqb}
 use Rattle.array.proofs.TestLaws.{and-left, and-right}
+use Rattle.column.specs.declared.Number.{Number}
+use Rattle.column.specs.declared.Number.the-variants.{Value}
 use Rattle.column.specs.Column.{column, numberOf}
+use Rattle.column.specs.Answers.{shown}
 use Rattle.column.specs.Row.{row, Room, andThen, numbersFrom, numbersOf}
 use Rattle.column.proofs.ColumnLaws.{column-length, column-of-number, number-of-column, number-bound, number-fits, number-full}
 
@@ -27,6 +30,10 @@ row-length (w ∷ ws) [] = rw (length-append, column-length w 0, row-length ws [
 row-length (w ∷ ws) (v ∷ vs) = rw (length-append, column-length w v, row-length ws vs) (omega arith)
 
 -- ---- a row that is read, column by column
+
+-- what the code was told of a column
+pub value-read : {r : Number} {v : ℕ} {o : Option ℕ} → shown r ≡ o → r ≡ Value v → some v ≡ o
+value-read e t = sym (ap shown t) ∙ e
 
 -- what a column more says
 record Both (x : Option ℕ) (r : Option (List ℕ)) (vs : List ℕ) : Type 0 where

@@ -19,16 +19,17 @@ use Rattle.array.proofs.PlacesLaws.{fill-same, fill-kept}
 use Rattle.plan.specs.declared.Plan.{Plan}
 use Rattle.plan.specs.Limits.{mostCells}
 use Rattle.plan.specs.Known.{votedIn}
-use Rattle.node.specs.declared.Memory.{Memory}
-use Rattle.node.specs.Size.{counterSize, patternSize, cellAt, binSize, binAt}
-use Rattle.node.specs.Majority.{holders, majority}
-use Rattle.node.specs.Node.{before, counterIn, cellIn, orOwn, votedCounter, votedCell, voted}
-use Rattle.node.proofs.StepLaws.{lent}
-use Rattle.node.proofs.ScanLaws.{holders-hit, holders-miss}
-use Rattle.node.proofs.MajorityLaws.{holders-same, holders-least, majority-some, majority-of-most}
+use Rattle.memory.specs.declared.Memory.{Memory}
+use Rattle.memory.specs.Size.{counterSize, patternSize, cellAt, binSize, binAt}
+use Rattle.ballot.specs.Majority.{holders, majority}
+use Rattle.ballot.specs.Majority.{orOwn}
+use Rattle.memory.specs.Node.{before, counterIn, cellIn, votedCounter, votedCell, voted}
+use Rattle.memory.proofs.StepLaws.{lent}
+use Rattle.ballot.proofs.ScanLaws.{holders-hit, holders-miss}
+use Rattle.ballot.proofs.MajorityLaws.{holders-same, holders-least, majority-some, majority-of-most}
 use Rattle.system.specs.Fault.{faultMemory}
 use Rattle.exchange.specs.Mail.{Counts, patched, after, goodHolders, settled}
-use Rattle.exchange.proofs.StepLaws.{stored-next}
+use Rattle.array.proofs.LoopLaws.{stored-next}
 use Rattle.exchange.proofs.MailLaws.{from-at, bin-of, patched-length, patched-good}
 
 -- ---- the words of good senders, packed

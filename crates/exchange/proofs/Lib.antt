@@ -1,3 +1,3 @@
-pub mod StepLaws
+pub mod SizeLaws
 pub mod MailLaws
 pub mod GoodLaws

@@ -1,4 +1,4 @@
--- Laws of bins in a buffer: a buffer by its bins, a part written into a buffer, and the bins after it.
+-- Laws of bins in a buffer: a buffer by its bins, and the bins after a part is written into it.
 use mathlib.Core.Path.{_≡_, refl, sym, ap, _∙_, subst}
 use mathlib.Core.Bool.{Bool, true, false, cond}
 use mathlib.Core.List.{List, [], _∷_, _++_, append-assoc, append-nil}
@@ -11,20 +11,22 @@ use lib.Seq.{ext-getD, getD-at, getD-append-add, getD-take, getD-drop, length-ta
 use borrow.Author.Tests.{ltb-true, ltb-false, eqb-true, eqb-false}
 use Rattle.array.specs.Index.{fill, joined, from}
 use Rattle.array.specs.Bit.{bit}
+use Rattle.array.specs.Place.{placed}
 use Rattle.array.specs.Word.{be, bytes}
 use Rattle.array.proofs.TestLaws.{split}
+use Rattle.array.proofs.PlacedLaws.{placed-length, placed-in, placed-before, placed-after, placed-more}
 use Rattle.array.proofs.PlacesLaws.{Holds, fill-length, fill-in, fill-same, joined-same, joined-holds, from-length}
 use Rattle.plan.specs.declared.Plan.{Plan}
 use Rattle.plan.specs.Limits.{mostNodes, mostActuators}
-use Rattle.node.specs.declared.Memory.{Memory}
-use Rattle.node.specs.Node.{before, counterIn, cellIn, votedCounter, votedCell, voted, setpoint, zeroMemory}
+use Rattle.memory.specs.declared.Memory.{Memory}
+use Rattle.memory.specs.Node.{before, counterIn, cellIn, votedCounter, votedCell, voted, setpoint, zeroMemory}
 use Rattle.plan.specs.Known.{votedIn}
-use Rattle.node.proofs.StepLaws.{lent}
-use Rattle.node.specs.Size.{counterSize, patternSize, cellAt, binSize, binAt}
+use Rattle.memory.proofs.StepLaws.{lent}
+use Rattle.memory.specs.Size.{counterSize, patternSize, cellAt, binSize, binAt}
 use Rattle.system.specs.Fault.{faultSize, faultAt, faultMemory, faultMessage, faultSetpoint}
 use Rattle.system.proofs.FaultLaws.{faultMessage-length}
-use Rattle.exchange.specs.Mail.{Small, Counts, allFaults, placed, patched, after}
-use Rattle.exchange.proofs.StepLaws.{faults-small}
+use Rattle.exchange.specs.Mail.{Small, Counts, allFaults, patched, after}
+use Rattle.exchange.proofs.SizeLaws.{faults-small}
 
 -- ---- the entries of a part
 
@@ -88,50 +90,6 @@ module _ {A : Type 0} (d : A) where
     pub bin-of : (f : ℕ → List A) (n j : ℕ) → ((j : ℕ) → length (f j) ≡ w) → j < n → from d (joined f n) (j * w) w ≡ f j
     bin-of f n j e l = from-held w (e j) (joined-holds f w e n j l)
 
--- ---- a part written into a buffer
-
-module _ (s t : List ℕ) (at : ℕ) (fits : at + length t ≤ length s) where
-  front-length : length (take at s) ≡ at
-  front-length = length-take-le at s (omega arith)
-
-  pub placed-length : length (placed s at t) ≡ length s
-  placed-length = simp (length-append, length-take, length-drop) (omega arith)
-
-  pub placed-in : (i : ℕ) → i < length t → getD (placed s at t) (at + i) 0 ≡ getD t i 0
-  placed-in i l =
-      subst (λ (n : ℕ). getD (placed s at t) (n + i) 0 ≡ getD t i 0) front-length
-      (getD-append-add (take at s) (t ++ drop (at + length t) s) i 0 ∙ List·getD-append t (drop (at + length t) s) 0 i l)
-
-  pub placed-before : (i : ℕ) → i < at → getD (placed s at t) i 0 ≡ getD s i 0
-  placed-before i l =
-      List·getD-append (take at s) (t ++ drop (at + length t) s) 0 i (omega (arith, front-length)) ∙ getD-take at s i 0 l
-
-  pub placed-after : (i : ℕ) → getD (placed s at t) (at + length t + i) 0 ≡ getD s (at + length t + i) 0
-  placed-after i =
-      let head : length (take at s ++ t) ≡ at + length t = length-append (take at s) t ∙ rw front-length in
-      rw (← append-assoc (take at s) t (drop (at + length t) s))
-      (subst (λ (n : ℕ). getD ((take at s ++ t) ++ drop (at + length t) s) (n + i) 0 ≡ getD s (at + length t + i) 0) head
-      (getD-append-add (take at s ++ t) (drop (at + length t) s) i 0 ∙ getD-drop (at + length t) s i 0))
-
--- a part, and one more behind it
-pub placed-more :
-    (s t u : List ℕ) (at : ℕ) → at + length t + length u ≤ length s →
-    placed (placed s at t) (at + length t) u ≡ placed s at (t ++ u)
-placed-more s t u at fits =
-    rw (front, back, length-append t u, ← add-assoc at (length t) (length u)) (simp append-assoc)
-  where
-    head : length (take at s ++ t) ≡ at + length t
-    head = length-append (take at s) t ∙ rw (length-take-le at s (omega arith))
-
-    front : take (at + length t) (placed s at t) ≡ take at s ++ t
-    front = rw (← append-assoc (take at s) t (drop (at + length t) s)) (take-at (take at s ++ t) (drop (at + length t) s) (at + length t) head)
-
-    back : drop (at + length t + length u) (placed s at t) ≡ drop (at + length t + length u) s
-    back =
-        rw (← append-assoc (take at s) t (drop (at + length t) s))
-        (subst (λ (n : ℕ). drop (n + length u) ((take at s ++ t) ++ drop (at + length t) s) ≡ drop (at + length t + length u) s) head
-        (drop-append-add (take at s ++ t) (drop (at + length t) s) (length u) ∙ drop-drop (length u) (at + length t) s))
-
 -- ---- a bin of words, copied
 
 -- the bytes of a number read from bytes are those bytes
@@ -171,7 +129,7 @@ module _ (source : List ℕ) (at : ℕ) (bins : List ℕ) (to : ℕ) (byte : (i 
       let ul : length u ≡ patternSize = from-length 0 source (at + patternSize * c) patternSize in
       let word : bytes patternSize x ≡ u = ap (bytes patternSize) (e ∙ ap (be patternSize source) za) ∙ bytes-of-be patternSize source (at + patternSize * c) byte in
       let put : next ≡ placed now (to + patternSize * c) u = subst (λ (k : ℕ). next ≡ placed now k u) zt (written now u (bytes patternSize x) t patternSize word ul h) in
-      let whole : placed (placed bins to p) (to + length p) u ≡ placed bins to (p ++ u) = placed-more bins p u to (omega arith) in
+      let whole : placed (placed bins to p) (to + length p) u ≡ placed bins to (p ++ u) = placed-more bins to p u (omega arith) in
       let longer : p ++ u ≡ from 0 source at (patternSize * (c + 1)) = sym (from-add 0 source at (patternSize * c) patternSize) ∙ ap (from 0 source at) (let z : patternSize * c + patternSize ≡ patternSize * (c + 1) = omega arith in z) in
       put ∙ rw n (subst (λ (k : ℕ). placed (placed bins to p) (to + k) u ≡ placed bins to (p ++ u)) pl whole) ∙ ap (placed bins to) longer
 
@@ -190,7 +148,7 @@ module _ (source : List ℕ) (at : ℕ) (bins : List ℕ) (to : ℕ) (byte : (i 
       let pl : length p ≡ counterSize = from-length 0 source at counterSize in
       let ul : length u ≡ patternSize * cells = from-length 0 source (at + counterSize) (patternSize * cells) in
       let first : now ≡ placed bins to p = written bins p (bytes counterSize x) to counterSize (ap (bytes counterSize) ex ∙ bytes-of-be counterSize source at byte) pl hn in
-      let whole : placed (placed bins to p) (to + length p) u ≡ placed bins to (p ++ u) = placed-more bins p u to (omega arith) in
+      let whole : placed (placed bins to p) (to + length p) u ≡ placed bins to (p ++ u) = placed-more bins to p u (omega arith) in
       h ∙ rw (e, first) (subst (λ (k : ℕ). placed (placed bins to p) (to + k) u ≡ placed bins to (p ++ u)) pl whole)
       ∙ ap (placed bins to) (sym (from-add 0 source at counterSize (patternSize * cells)))
 
@@ -204,14 +162,14 @@ module _ (bins t : List ℕ) (w n j : ℕ) (tl : length t ≡ w) (l : j < n) (lo
   fits = omega (arith, bin-ends j l)
 
   pub written-length : length next ≡ length bins
-  written-length = ap length e ∙ placed-length bins t (j * w) fits
+  written-length = ap length e ∙ placed-length bins (j * w) t fits
 
   pub written-bin : from 0 next (j * w) w ≡ t
   written-bin =
       ext-getD 0 (from 0 next (j * w) w) t (from-length 0 next (j * w) w ∙ sym tl)
       (λ i h.
       let k : i < w = omega (arith, from-length 0 next (j * w) w) in
-      from-at 0 next (j * w) w i k ∙ rw e (placed-in bins t (j * w) fits i (omega arith)))
+      from-at 0 next (j * w) w i k ∙ rw e (placed-in bins (j * w) t fits i (omega arith)))
 
   pub written-other : (k : ℕ) → (k ≡ j → ⊥) → from 0 next (k * w) w ≡ from 0 bins (k * w) w
   written-other k o = from-same 0 next bins (k * w) (k * w) w (λ i h. rw e (entry i h))
@@ -221,12 +179,12 @@ module _ (bins t : List ℕ) (w n j : ℕ) (tl : length t ≡ w) (l : j < n) (lo
           split (ltb k j)
           (λ b.
           let m : suc k * w ≤ j * w = mul-le-mul-right w (ltb-true k j b) in
-          placed-before bins t (j * w) fits (k * w + i) (omega (arith, suc-mul k w)))
+          placed-before bins (j * w) t fits (k * w + i) (omega (arith, suc-mul k w)))
           (λ b.
           let m : suc j * w ≤ k * w = mul-le-mul-right w (omega (arith, ltb-false k j b)) in
           let z : j * w + length t + (k * w + i - (j * w + length t)) ≡ k * w + i = omega (arith, suc-mul j w) in
           subst (λ (x : ℕ). getD (placed bins (j * w) t) x 0 ≡ getD bins x 0) z
-          (placed-after bins t (j * w) fits (k * w + i - (j * w + length t))))
+          (placed-after bins (j * w) t fits (k * w + i - (j * w + length t))))
 
 -- ---- bins patched for a receiver
 
@@ -401,53 +359,3 @@ module _ {A : Type 0} (mask j : ℕ) {b : Bool} (e : b ≡ bit mask j) (x y : A)
 
   pub if-good : {z : A} → b ≡ false → z ≡ y → z ≡ cond (bit mask j) x y
   if-good t h = rw (sym e ∙ t) h
-
--- ---- the table of what the nodes put out: rows of mostActuators entries
-
-pub put-same : (p : Plan) {b t : Bool} {m own : Memory} (x a : ℕ) → b ≡ t → m ≡ own → cond b x (setpoint p m a) ≡ cond t x (setpoint p own a)
-put-same p x a e h = rw (e, h)
-
-pub put-lent :
-    (p : Plan) (faults : List ℕ) {nodes cells actuators size block : ℕ} {table : List ℕ} →
-    Counts p nodes cells actuators → p .«actuator_cell» ≡ table → size ≡ binSize p → block ≡ faultSize p → (b : Bool) (j a : ℕ) (m : Memory) →
-    cond b (be patternSize faults (j * block + size + nodes * size + patternSize * a)) (setpoint (lent 0 0 0 0 [] table) m a) ≡ cond b (faultSetpoint p faults j a) (setpoint p m a)
-unfolding faultSetpoint setpoint
-put-lent p faults h t es eb b j a m = rw (es, eb, ← h .0, ← t)
-
--- row j is written
-module _
-    (table row : List ℕ) (g : ℕ → ℕ) (want : ℕ → ℕ → ℕ) (j A k : ℕ)
-    (long : length table ≡ 56) (few : A ≤ mostActuators) (l : j < mostNodes) (z : k ≡ A)
-    (e : row ≡ fill g A (take k (drop (mostActuators * j) table)))
-  where
-    row-start : length (take k (drop (mostActuators * j) table)) ≡ A
-    row-start = part-length table (mostActuators * j) k A z (omega arith)
-
-    row-length : length row ≡ A
-    row-length = ap length e ∙ fill-length g A (take k (drop (mostActuators * j) table)) ∙ row-start
-
-    row-fits : mostActuators * j + length row ≤ length table
-    row-fits = omega (arith, row-length)
-
-    row-put : take (mostActuators * j) table ++ (row ++ drop k (drop (mostActuators * j) table)) ≡ placed table (mostActuators * j) row
-    row-put = part-back table row row (mostActuators * j) k refl (row-length ∙ sym z)
-
-    pub table-long : length (take (mostActuators * j) table ++ (row ++ drop k (drop (mostActuators * j) table))) ≡ 56
-    table-long = ap length row-put ∙ placed-length table row (mostActuators * j) row-fits ∙ long
-
-    pub table-next :
-        ((b : ℕ) → b < A → g b ≡ want j b) →
-        ((i b : ℕ) → i < j → b < A → getD table (mostActuators * i + b) 0 ≡ want i b) →
-        (i b : ℕ) → i < j + 1 → b < A → getD (take (mostActuators * j) table ++ (row ++ drop k (drop (mostActuators * j) table))) (mostActuators * i + b) 0 ≡ want i b
-    table-next new old i b il bl =
-        rw row-put
-        (split (eqb i j)
-        (λ t.
-        rw (eqb-true i j t)
-        (placed-in table row (mostActuators * j) row-fits b (omega (arith, row-length))
-        ∙ ap (λ (r : List ℕ). getD r b 0) e
-        ∙ fill-in g A (take k (drop (mostActuators * j) table)) b 0 bl (omega (arith, row-start))
-        ∙ new b bl))
-        (λ t.
-        let h : i < j = omega (arith, eqb-false i j t) in
-        placed-before table row (mostActuators * j) row-fits (mostActuators * i + b) (omega arith) ∙ old i b h bl))

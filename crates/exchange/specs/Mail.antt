@@ -1,16 +1,16 @@
--- The code's own: bins in a buffer, and a part written into a buffer. No public contract cites these.
+-- The code's own: bins in a buffer. No public contract cites these.
 use mathlib.Core.Bool.{Bool, false, not, cond, _&&_}
-use mathlib.Core.List.{List, _++_}
+use mathlib.Core.List.{List}
 use mathlib.Core.Path.{_≡_}
 use Prim.Native.Nat.{ℕ, _+_, _*_, _≤_}
 use lib.Dec.{eqb}
-use lib.ListN.{length, getD, take, drop}
+use lib.ListN.{getD}
 use Rattle.array.specs.Index.{howMany, fill, from, joined}
 use Rattle.plan.specs.declared.Plan.{Plan}
 use Rattle.plan.specs.Limits.{mostNodes, mostCells, mostActuators}
-use Rattle.node.specs.declared.Memory.{Memory}
-use Rattle.node.specs.Size.{patternSize, cellAt, binSize, binAt}
-use Rattle.node.specs.Node.{voted}
+use Rattle.memory.specs.declared.Memory.{Memory}
+use Rattle.memory.specs.Size.{patternSize, cellAt, binSize, binAt}
+use Rattle.memory.specs.Node.{voted}
 use Rattle.system.specs.Fault.{bad, faultMemory, faultMessage}
 
 -- the numbers that a step is lent of a plan: their limits, and that a plan has them
@@ -23,10 +23,6 @@ Counts p nodes cells actuators = (p .nodes ≡ nodes) × (p .cells ≡ cells) ×
 -- the length of the fault bytes
 abbrev pub allFaults : ℕ → ℕ → ℕ → ℕ
 allFaults nodes cells actuators = nodes * (cellAt cells + nodes * cellAt cells + patternSize * actuators)
-
--- a buffer with t from a place on
-abbrev pub placed : List ℕ → ℕ → List ℕ → List ℕ
-placed s at t = take at s ++ (t ++ drop (at + length t) s)
 
 -- the bins of a mailbox with those of the bad senders as the fault bytes say for receiver i
 unfoldable pub patched : Plan → List ℕ → ℕ → ℕ → List ℕ → ℕ → List ℕ

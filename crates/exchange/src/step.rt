@@ -9,13 +9,14 @@ ghost use Rattle.array.specs.Word.{be};
 ghost use Rattle.array.specs.Bit.{bit};
 ghost use Rattle.plan.specs.Limits.{mostNodes, mostFrames, mostCells, mostActuators};
 ghost use Rattle.plan.specs.Accepted.{accepted};
-ghost use Rattle.node.specs.Size.{counterSize, patternSize, cellAt};
-ghost use Rattle.node.specs.Node.{zeroMemory, messageOf};
-ghost use Rattle.node.specs.Answers.{valueOf};
+ghost use Rattle.memory.specs.Size.{counterSize, patternSize, cellAt};
+ghost use Rattle.memory.specs.Node.{zeroMemory, messageOf};
+ghost use Rattle.ballot.specs.Majority.{valueOf};
 ghost use Rattle.system.specs.Fault.{faultAt, faultMemory};
-ghost use Rattle.exchange.specs.Mail.{Small, Counts, allFaults, placed, patched, after, goodHolders, settled};
-use node::Memory;
-use node::Voted;
+ghost use Rattle.array.specs.Place.{placed};
+ghost use Rattle.exchange.specs.Mail.{Small, Counts, allFaults, patched, after, goodHolders, settled};
+use ballot::Voted;
+use memory::Memory;
 use plan::Plan;
 use system::System;
 
@@ -24,16 +25,8 @@ pub fn fault_size(nodes: usize, cells: usize, actuators: usize) -> usize
     requires { ⌜ (nodes ≤ mostNodes) × (cells ≤ mostCells) × (actuators ≤ mostActuators) ⌝ }
     ensures { λ r. ⌜ r ≡ cellAt cells + nodes * cellAt cells + patternSize * actuators ⌝ }
 {
-    let size = node::step::message_size(cells);
+    let size = memory::step::message_size(cells);
     size + nodes * size + 8 * actuators
-}
-
-// Bit i of the mask.
-pub fn is_bad(mask: u64, i: usize) -> bool
-    requires { ⌜ i < mostNodes ⌝ }
-    ensures { λ r. ⌜ r ≡ bit mask i ⌝ }
-{
-    (mask >> i) % 2 == 1
 }
 
 // The messages of all nodes, one after another. What is lent of a plan is its votes and numbers; each contract speaks for every plan that has them.
@@ -48,12 +41,12 @@ pub fn write_messages(
     requires { ⌜ (nodes ≤ mostNodes) × (0 < frames) × (frames ≤ mostFrames) × (cells ≤ mostCells) × (length (now bins) ≡ nodes * cellAt cells) ⌝ }
     ensures { λ _. ⌜ ((p : Plan) → p .voted ≡ now (voted .entry) → p .frames ≡ frames → p .cells ≡ cells → now (bins .exit) ≡ joined (λ j. messageOf p (getD memories j zeroMemory)) nodes) ⌝ }
 {
-    let size = node::step::message_size(cells);
+    let size = memory::step::message_size(cells);
     let mut j: usize = 0;
     while j < nodes {
         let m = memories[j];
         let at = j * size;
-        node::step::message_with(voted, frames, cells, m, &mut bins[at..at + size]);
+        memory::step::message_with(voted, frames, cells, m, &mut bins[at..at + size]);
         j += 1;
     }
 }
@@ -88,11 +81,11 @@ fn patch(
     requires { ⌜ Small nodes cells actuators × (length (now faults) ≡ allFaults nodes cells actuators) × (i < nodes) × (length (now bins) ≡ nodes * cellAt cells) ⌝ }
     ensures { λ _. ⌜ ((p : Plan) → Counts p nodes cells actuators → now (bins .exit) ≡ joined (patched p (now (faults .entry)) mask i (now (bins .entry))) (p .nodes)) ⌝ }
 {
-    let size = node::step::message_size(cells);
+    let size = memory::step::message_size(cells);
     let block = fault_size(nodes, cells, actuators);
     let mut j: usize = 0;
     while j < nodes {
-        if is_bad(mask, j) {
+        if counts::step::is_bad(mask, j) {
             copy_bin(faults, j * block + size + i * size, bins, j * size, cells);
         }
         j += 1;
@@ -133,11 +126,11 @@ fn memory_after(
     requires { ⌜ Small nodes cells actuators × (0 < frames) × (frames ≤ mostFrames) × (length (now faults) ≡ allFaults nodes cells actuators) × (i < nodes) × (length (now bins) ≡ nodes * cellAt cells) ⌝ }
     ensures { λ r. ⌜ ((p : Plan) → Counts p nodes cells actuators → p .frames ≡ frames → p .voted ≡ now (voted .entry) → (r ≡ after p (now (faults .entry)) mask (now (bins .entry)) i own) × (now (bins .exit) ≡ cond (bit mask i) (now (bins .entry)) (joined (patched p (now (faults .entry)) mask i (now (bins .entry))) (p .nodes)))) ⌝ }
 {
-    if is_bad(mask, i) {
+    if counts::step::is_bad(mask, i) {
         return fault_memory(cells, faults, i * fault_size(nodes, cells, actuators), own);
     }
     patch(nodes, cells, actuators, faults, mask, i, bins);
-    node::step::vote_with(voted, nodes, frames, cells, own, bins)
+    memory::step::vote_with(voted, nodes, frames, cells, own, bins)
 }
 
 // Every node votes by itself.
@@ -186,13 +179,13 @@ fn good_counter(bins: &[u8], nodes: usize, size: usize, mask: u64) -> Voted
     let mut k: usize = 0;
     let mut j: usize = 0;
     while j < nodes {
-        if !is_bad(mask, j) {
+        if !counts::step::is_bad(mask, j) {
             values[k] = array::step::read2(bins, j * size) as u64;
             k += 1;
         }
         j += 1;
     }
-    node::step::majority(&values, k, nodes)
+    ballot::step::majority(&values, k, nodes)
 }
 
 fn good_cell(bins: &[u8], nodes: usize, size: usize, at: usize, mask: u64) -> Voted
@@ -203,13 +196,13 @@ fn good_cell(bins: &[u8], nodes: usize, size: usize, at: usize, mask: u64) -> Vo
     let mut k: usize = 0;
     let mut j: usize = 0;
     while j < nodes {
-        if !is_bad(mask, j) {
+        if !counts::step::is_bad(mask, j) {
             values[k] = array::step::read8(bins, j * size + at);
             k += 1;
         }
         j += 1;
     }
-    node::step::majority(&values, k, nodes)
+    ballot::step::majority(&values, k, nodes)
 }
 
 // The counter below `frames` that more than half sent as good ones, or else `frames`.
@@ -239,7 +232,7 @@ fn decide(
     requires { ⌜ (nodes ≤ mostNodes) × (cells ≤ mostCells) × (frame < mostFrames) × (length (now bins) ≡ nodes * cellAt cells) × (length (now value) ≡ mostCells) ⌝ }
     ensures { λ r. ⌜ (r ≡ true → (c : ℕ) → c < cells → getD (now (voted .entry)) (mostCells * frame + c) false ≡ true → nodes < 2 * goodHolders mask (λ j. be patternSize (now (bins .entry)) (j * cellAt cells + cellAt c)) nodes (getD (now (value .exit)) c 0)) ⌝ }
 {
-    let size = node::step::message_size(cells);
+    let size = memory::step::message_size(cells);
     let mut c: usize = 0;
     while c < cells {
         if voted[Plan::CELLS * frame + c] {
@@ -320,7 +313,7 @@ fn settle_all(
     let mut i: usize = 0;
     while i < nodes {
         let m = all[i];
-        let bad = is_bad(mask, i);
+        let bad = counts::step::is_bad(mask, i);
         let next = settle_node(
             voted,
             cells,
@@ -354,7 +347,7 @@ fn vote_agreed(
     requires { ⌜ Small nodes cells actuators × (counter < frames) × (frames ≤ mostFrames) × (length (now faults) ≡ allFaults nodes cells actuators) × (length (now bins) ≡ nodes * cellAt cells) × (nodes < 2 * goodHolders mask (λ j. be counterSize (now bins) (j * cellAt cells)) nodes counter) ⌝ }
     ensures { λ r. ⌜ ((p : Plan) → Counts p nodes cells actuators → p .frames ≡ frames → p .voted ≡ now (voted .entry) → r ≡ fill (λ i. after p (now (faults .entry)) mask (now (bins .entry)) i (getD own i zeroMemory)) (p .nodes) own) ⌝ }
 {
-    let frame = node::step::frame_before(counter, frames);
+    let frame = memory::step::frame_before(counter, frames);
     let mut value = [0u64; Plan::CELLS];
     if !decide(voted, nodes, cells, frame, mask, bins, &mut value) {
         return vote_each(
@@ -398,7 +391,7 @@ pub fn vote_all(
     requires { ⌜ Small nodes cells actuators × (0 < frames) × (frames ≤ mostFrames) × (length (now faults) ≡ allFaults nodes cells actuators) × (length (now bins) ≡ nodes * cellAt cells) ⌝ }
     ensures { λ r. ⌜ ((p : Plan) → Counts p nodes cells actuators → p .frames ≡ frames → p .voted ≡ now (voted .entry) → r ≡ fill (λ i. after p (now (faults .entry)) mask (now (bins .entry)) i (getD own i zeroMemory)) (p .nodes) own) ⌝ }
 {
-    let size = node::step::message_size(cells);
+    let size = memory::step::message_size(cells);
     let agreed = agreed_counter(bins, nodes, size, mask, frames);
     if agreed >= frames {
         return vote_each(

@@ -12,9 +12,9 @@ use Rattle.answer.specs.declared.Answer.the-variants.{Done, InvalidPlan, WrongL
 use Rattle.plan.specs.declared.Plan.{Plan}
 use Rattle.plan.specs.Known.{period as periodOf}
 use Rattle.plan.specs.Accepted.{accepted}
-use Rattle.node.specs.declared.Memory.{Memory}
+use Rattle.memory.specs.declared.Memory.{Memory}
 use Rattle.node.specs.declared.Outcome.{Outcome}
-use Rattle.node.specs.Node.{computed, setpoint}
+use Rattle.memory.specs.Node.{computed, setpoint}
 use Rattle.system.specs.Fault.{faultsSize}
 use Rattle.system.specs.declared.System.{System}
 use Rattle.system.specs.declared.Framed.{Framed}

@@ -7,14 +7,12 @@ ghost use Rattle.plan.specs.Limits.{mostNodes};
 ghost use Rattle.plan.specs.Accepted.{accepted};
 ghost use Rattle.system.specs.Frame.{lengthsOk, frameAnswer, framePlace, singleAnswer, singlePlaceAfter, workingAnswer, agreeingAnswer};
 use answer::Answer;
-use node::Memory;
+use memory::Memory;
 use node::Outcome;
 use plan::Plan;
 use system::Counted;
 use system::Framed;
 use system::System;
-
-pub mod step;
 
 // 9: the mask.
 fn mask_ok(nodes: usize, mask: u64) -> bool
@@ -47,7 +45,7 @@ pub fn frame(
 ) -> Framed
     ensures { λ r. ⌜ (r ≡ frameAnswer plan system (now (sensors .entry)) mask (now (faults .entry)) (now (place .entry))) × (now (place .exit) ≡ framePlace plan system (now (sensors .entry)) mask (now (faults .entry)) (now (place .entry))) ⌝ }
 {
-    let period = plan::accepted_period(plan);
+    let period = recovery::accepted_period(plan);
     if period == 0 {
         return Framed {
             answer: Answer::InvalidPlan,
@@ -55,7 +53,7 @@ pub fn frame(
         };
     }
     let nodes = plan.nodes;
-    if !(mask_ok(nodes, mask) & step::counts_ok(&system.good, nodes, period)) {
+    if !(mask_ok(nodes, mask) & counts::step::counts_ok(&system.good, nodes, period)) {
         return Framed {
             answer: Answer::MaskOrCount,
             system,
@@ -67,7 +65,7 @@ pub fn frame(
             system,
         };
     }
-    let next = step::frame(plan, period, system, sensors, mask, faults, place);
+    let next = phases::step::frame(plan, period, system, sensors, mask, faults, place);
     Framed {
         answer: Answer::Done,
         system: next,
@@ -77,7 +75,7 @@ pub fn frame(
 pub fn single(plan: Plan, memory: Memory, sensors: &[u64], place: &mut [u64]) -> Outcome
     ensures { λ r. ⌜ (r ≡ singleAnswer plan memory (now (sensors .entry)) (now (place .entry))) × (now (place .exit) ≡ singlePlaceAfter plan memory (now (sensors .entry)) (now (place .entry))) ⌝ }
 {
-    if plan::accepted_period(plan) == 0 {
+    if recovery::accepted_period(plan) == 0 {
         return Outcome {
             answer: Answer::InvalidPlan,
             memory,
@@ -91,8 +89,8 @@ pub fn single(plan: Plan, memory: Memory, sensors: &[u64], place: &mut [u64]) ->
             memory,
         };
     }
-    let next = node::step::compute(plan, memory, sensors);
-    node::step::setpoints(plan, next, place);
+    let next = memory::step::compute(plan, memory, sensors);
+    memory::step::setpoints(plan, next, place);
     Outcome {
         answer: Answer::Done,
         memory: next,
@@ -102,7 +100,7 @@ pub fn single(plan: Plan, memory: Memory, sensors: &[u64], place: &mut [u64]) ->
 pub fn working(plan: Plan, system: System, mask: u64) -> Counted
     ensures { λ r. ⌜ r ≡ workingAnswer plan system mask ⌝ }
 {
-    let period = plan::accepted_period(plan);
+    let period = recovery::accepted_period(plan);
     if period == 0 {
         return Counted {
             answer: Answer::InvalidPlan,
@@ -110,13 +108,13 @@ pub fn working(plan: Plan, system: System, mask: u64) -> Counted
         };
     }
     let n = plan.nodes;
-    if !(mask_ok(n, mask) & step::counts_ok(&system.good, n, period)) {
+    if !(mask_ok(n, mask) & counts::step::counts_ok(&system.good, n, period)) {
         return Counted {
             answer: Answer::MaskOrCount,
             count: 0,
         };
     }
-    let count = step::working(plan, period, system, mask);
+    let count = counts::step::working(plan, period, system, mask);
     Counted {
         answer: Answer::Done,
         count,
@@ -126,7 +124,7 @@ pub fn working(plan: Plan, system: System, mask: u64) -> Counted
 pub fn agreeing(plan: Plan, system: System, memory: Memory) -> Counted
     ensures { λ r. ⌜ r ≡ agreeingAnswer plan system memory ⌝ }
 {
-    let period = plan::accepted_period(plan);
+    let period = recovery::accepted_period(plan);
     if period == 0 {
         return Counted {
             answer: Answer::InvalidPlan,
@@ -134,13 +132,13 @@ pub fn agreeing(plan: Plan, system: System, memory: Memory) -> Counted
         };
     }
     let nodes = plan.nodes;
-    if !step::counts_ok(&system.good, nodes, period) {
+    if !counts::step::counts_ok(&system.good, nodes, period) {
         return Counted {
             answer: Answer::MaskOrCount,
             count: 0,
         };
     }
-    let count = step::agreeing(plan, system, memory);
+    let count = counts::step::agreeing(plan, system, memory);
     Counted {
         answer: Answer::Done,
         count,

@@ -18,32 +18,33 @@ use Rattle.answer.specs.Refusal.{numberOf}
 use Rattle.plan.specs.declared.Plan.{Plan}
 use Rattle.plan.specs.Known.{period}
 use Rattle.plan.specs.Accepted.{accepted, wellFormed, headerOk, storable}
-use Rattle.plan.specs.Answers.{acceptedPeriod}
+use Rattle.recovery.specs.Answers.{acceptedPeriod}
 use Rattle.plan_text.specs.declared.PlanRead.{PlanRead}
-use Rattle.plan_text.specs.Meant.{zeroPlan, planOf}
-use Rattle.plan_text.specs.Refused.{textRefusal}
+use Rattle.text.specs.Meant.{zeroPlan, planOf}
+use Rattle.text.specs.Refused.{textRefusal}
 use Rattle.plan_text.specs.Answers.{readAnswer}
 use Rattle.plan_text.specs.Answers as text
-use Rattle.plan_text.specs.Reader.{placed}
-use Rattle.plan_text.proofs.RefusedLaws.{refusal-numbered}
+use Rattle.array.specs.Place.{placed}
+use Rattle.text.proofs.RefusedLaws.{refusal-numbered}
 use Rattle.plan_text.proofs.TextLaws.{read-plan}
 use Rattle.node.specs.declared.Outcome.{Outcome}
-use Rattle.node.specs.Node.{zeroMemory, poweredOn}
+use Rattle.memory.specs.Node.{zeroMemory, poweredOn}
 use Rattle.node.specs.Answers as node
 use Rattle.system.specs.declared.Started.{Started as Began}
 use Rattle.system.specs.System.{zeroSystem}
 use Rattle.system.specs.System as power
 use Rattle.system.specs.Frame.{countsOk}
-use Rattle.listing.specs.declared.Run.{Run}
+use Rattle.lines.specs.declared.Run.{Run}
 use Rattle.listing.specs.declared.Started.{Started}
-use Rattle.listing.specs.declared.Printed.{Printed}
-use Rattle.listing.specs.declared.step.Stepped.{Stepped}
-use Rattle.listing.specs.Line.{runLineSize, printedSize, refusalLine, refusalSize}
-use Rattle.listing.specs.Listing.{mostLines, lineNumbers, frameLine}
-use Rattle.listing.specs.Answers.{zeroRun, startOf, unlessRefused, startAnswer, runAfter, nextNumbers, inTurn, inOrder, lineAnswer, taken, runTaken, nextAnswer, placeTaken, nextPlace, refusalWritten, refusalPlace}
-use Rattle.listing.specs.Step.{stepAnswer, stepPlace, takenOr, lineTaken}
-use Rattle.listing.proofs.StepLaws.{empty-of-length, nothing-numbers, taken-none, taken-some, line-in-time}
-use Rattle.listing.proofs.WritingLaws.{frame-length}
+use Rattle.lines.specs.declared.Printed.{Printed}
+use Rattle.lines.specs.declared.step.Stepped.{Stepped}
+use Rattle.lines.specs.Line.{runLineSize, printedSize, refusalLine, refusalSize}
+use Rattle.lines.specs.Listing.{mostLines, lineNumbers, frameLine}
+use Rattle.lines.specs.Run.{runAfter, nextNumbers}
+use Rattle.listing.specs.Answers.{zeroRun, startOf, unlessRefused, startAnswer, inTurn, inOrder, lineAnswer, taken, runTaken, nextAnswer, placeTaken, nextPlace, refusalWritten, refusalPlace}
+use Rattle.lines.specs.Step.{stepAnswer, stepPlace, takenOr, lineTaken}
+use Rattle.lines.proofs.StepLaws.{empty-of-length, nothing-numbers, taken-none, taken-some, line-in-time}
+use Rattle.lines.proofs.WritingLaws.{frame-length}
 
 -- ---- the line of a refusal
 

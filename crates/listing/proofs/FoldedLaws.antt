@@ -22,26 +22,27 @@ use Rattle.plan.specs.Limits.{mostNodes}
 use Rattle.plan.specs.Known.{period}
 use Rattle.plan.specs.Accepted.{accepted}
 use Rattle.plan.proofs.AcceptedLaws.{shape-of-accepted}
-use Rattle.plan_text.specs.Meant.{planOf}
-use Rattle.plan_text.specs.Refused.{textRefusal}
-use Rattle.plan_text.proofs.RefusedLaws.{refusal-numbered}
+use Rattle.text.specs.Meant.{planOf}
+use Rattle.text.specs.Refused.{textRefusal}
+use Rattle.text.proofs.RefusedLaws.{refusal-numbered}
 use Rattle.plan_text.proofs.TextLaws.{read-plan}
-use Rattle.node.specs.declared.Memory.{Memory}
-use Rattle.node.specs.Node.{poweredOn}
+use Rattle.memory.specs.declared.Memory.{Memory}
+use Rattle.memory.specs.Node.{poweredOn}
 use Rattle.system.specs.declared.System.{System}
 use Rattle.system.specs.System.{powerOn}
 use Rattle.system.specs.Fault.{bad}
 use Rattle.system.specs.Frame.{goodOf, goodAfter, systemAfter, countsOk}
-use Rattle.listing.specs.declared.Run.{Run}
-use Rattle.listing.specs.Line.{maskIn, sensorsIn, runLineSize, runNumbers, printedSize, refusalLine}
-use Rattle.listing.specs.Listing.{mostLines, leading, isSome, faultBytes, systemNext, singleNext, frameLine, lineOf, numbersOf, systemAt, singleAt, printedAt, frames, printed, lineLeft, runListing, listing}
-use Rattle.listing.specs.Listing as whole
-use Rattle.listing.specs.Answers.{startOf, unlessRefused, startAnswer, runAfter, nextNumbers, inTurn, inOrder, lineAnswer, taken, runTaken, nextAnswer, placeTaken, nextPlace, isDone}
+use Rattle.lines.specs.declared.Run.{Run}
+use Rattle.lines.specs.Line.{maskIn, sensorsIn, runLineSize, runNumbers, printedSize, refusalLine}
+use Rattle.lines.specs.Listing.{mostLines, leading, isSome, faultBytes, systemNext, singleNext, frameLine, lineOf, numbersOf, systemAt, singleAt, printedAt, frames, printed, lineLeft, runListing, listing}
+use Rattle.lines.specs.Listing as whole
+use Rattle.lines.specs.Run.{runAfter, nextNumbers}
+use Rattle.listing.specs.Answers.{startOf, unlessRefused, startAnswer, inTurn, inOrder, lineAnswer, taken, runTaken, nextAnswer, placeTaken, nextPlace, isDone}
 use Rattle.listing.specs.Folded.{blank, nextOf, printedBy, folded}
-use Rattle.listing.proofs.StepLaws.{empty-of-length, line-early, line-in-time}
-use Rattle.listing.proofs.WritingLaws.{joined-front, frame-length}
+use Rattle.lines.proofs.StepLaws.{empty-of-length, line-early, line-in-time}
+use Rattle.lines.proofs.WritingLaws.{joined-front, frame-length}
 use Rattle.listing.proofs.CallLaws.{nothing-next}
-use Rattle.listing.proofs.RunLaws.{ran-none, ran-ended, frames-are}
+use Rattle.lines.proofs.RunLaws.{ran-none, ran-ended, frames-are}
 
 -- ---- the first line, and those after it
 

@@ -1,7 +1,2 @@
-pub mod ReadingLaws
-pub mod WritingLaws
-pub mod StepLaws
-pub mod RunLaws
 pub mod CallLaws
 pub mod FoldedLaws
-pub mod RowsLaws

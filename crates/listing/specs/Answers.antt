@@ -12,16 +12,17 @@ use Rattle.plan.specs.declared.Plan.{Plan}
 use Rattle.plan.specs.Known.{period}
 use Rattle.plan.specs.Accepted.{accepted}
 use Rattle.plan_text.specs.declared.TextWritten.{TextWritten}
-use Rattle.plan_text.specs.Meant.{zeroPlan, planOf}
-use Rattle.plan_text.specs.Refused.{textRefusal}
-use Rattle.node.specs.Node.{zeroMemory, poweredOn}
+use Rattle.text.specs.Meant.{zeroPlan, planOf}
+use Rattle.text.specs.Refused.{textRefusal}
+use Rattle.memory.specs.Node.{zeroMemory, poweredOn}
 use Rattle.system.specs.System.{zeroSystem, powerOn}
 use Rattle.system.specs.Frame.{countsOk}
-use Rattle.listing.specs.declared.Run.{Run}
+use Rattle.lines.specs.declared.Run.{Run}
 use Rattle.listing.specs.declared.Started.{Started}
-use Rattle.listing.specs.declared.Printed.{Printed}
-use Rattle.listing.specs.Line.{runLineSize, printedSize, refusalLine, refusalSize}
-use Rattle.listing.specs.Listing.{mostLines, isSome, lineNumbers, systemNext, singleNext, frameLine}
+use Rattle.lines.specs.declared.Printed.{Printed}
+use Rattle.lines.specs.Line.{runLineSize, printedSize, refusalLine, refusalSize}
+use Rattle.lines.specs.Listing.{mostLines, isSome, frameLine}
+use Rattle.lines.specs.Run.{runAfter, nextNumbers}
 
 -- ---- start
 
@@ -40,21 +41,6 @@ unfoldable pub startAnswer : List ℕ → Started
 startAnswer s = record { answer = Option·getD (textRefusal s) Done; run = unlessRefused (textRefusal s) (startOf (planOf s)) }
 
 -- ---- the next line, of what is left of the run
-
--- the state after a frame from the line's numbers l. The period handed in counts for nothing: it is the plan's.
-unfoldable pub runAfter : Run → List ℕ → Run
-runAfter r l =
-    record {
-      plan = r .plan;
-      period = period (r .plan);
-      system = systemNext (r .plan) (r .system) l;
-      single = singleNext (r .plan) (r .single) l;
-      frame = r .frame + 1;
-    }
-
--- the numbers of the next line, if it is not refused: 10
-unfoldable pub nextNumbers : Run → List ℕ → Option (List ℕ)
-nextNumbers r rest = lineNumbers (r .plan) (r .frame) (take (runLineSize (r .plan .sensors)) rest)
 
 -- 7, 9, 8: "a text buffer too short"
 unfoldable pub inTurn : Run → ℕ → Answer → Answer

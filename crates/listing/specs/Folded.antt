@@ -5,10 +5,10 @@ use mathlib.Core.List.{List, [], _++_}
 use Prim.Native.Nat.{ℕ, zero, suc}
 use lib.Dec.{eqb}
 use lib.ListN.{take, drop, replicate}
-use Rattle.listing.specs.declared.Run.{Run}
-use Rattle.listing.specs.declared.Printed.{Printed}
-use Rattle.listing.specs.Line.{runLineSize, printedSize, refusalLine}
-use Rattle.listing.specs.Listing.{mostLines}
+use Rattle.lines.specs.declared.Run.{Run}
+use Rattle.lines.specs.declared.Printed.{Printed}
+use Rattle.lines.specs.Line.{runLineSize, printedSize, refusalLine}
+use Rattle.lines.specs.Listing.{mostLines}
 use Rattle.listing.specs.Answers.{startAnswer, nextAnswer, nextPlace, isDone}
 
 -- a buffer for a line

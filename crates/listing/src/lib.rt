@@ -1,4 +1,4 @@
-// The run listing: start from a plan text, the next line of a run, a refusal's line. Each call answers any state; the steps under them are in `step`.
+// The run listing: start from a plan text, the next line of a run, a refusal's line. Each call answers any state; the steps under them are in `lines`.
 ghost use mathlib.Core.Path.{_≡_};
 ghost use mathlib.Core.Bool.{true};
 ghost use Prim.Native.Nat.{_+_, min};
@@ -6,36 +6,20 @@ ghost use lib.ListN.{length};
 ghost use Rattle.answer.specs.declared.Answer.the-variants.{RunLine};
 ghost use Rattle.plan.specs.Known.{period as periodOf};
 ghost use Rattle.plan.specs.Accepted.{accepted};
-ghost use Rattle.listing.specs.Line.{printedSize};
-ghost use Rattle.listing.specs.Listing.{mostLines};
-ghost use Rattle.listing.specs.Answers.{startAnswer, nextNumbers, placeTaken, nextAnswer, nextPlace, refusalWritten, refusalPlace};
-ghost use Rattle.listing.specs.Step.{lineTaken};
+ghost use Rattle.lines.specs.Line.{printedSize};
+ghost use Rattle.lines.specs.Listing.{mostLines};
+ghost use Rattle.lines.specs.Run.{nextNumbers};
+ghost use Rattle.listing.specs.Answers.{startAnswer, placeTaken, nextAnswer, nextPlace, refusalWritten, refusalPlace};
+ghost use Rattle.lines.specs.Step.{lineTaken};
 use answer::Answer;
-use node::Memory;
+use lines::Printed;
+use lines::Run;
 use plan::Plan;
 use plan_text::TextWritten;
 use system::System;
 
-pub mod step;
-
-// A run between two lines: the plan with its period, the system, the single controller, and the number of the next frame.
-pub struct Run {
-    pub plan: Plan,
-    pub period: usize,
-    pub system: System,
-    pub single: Memory,
-    pub frame: usize,
-}
-
 pub struct Started {
     pub answer: Answer,
-    pub run: Run,
-}
-
-// How many bytes of the buffer are the line; none where the run has ended or is refused.
-pub struct Printed {
-    pub answer: Answer,
-    pub count: usize,
     pub run: Run,
 }
 
@@ -46,7 +30,7 @@ pub fn start(text: &[u8]) -> Started
     let read = plan_text::read(text);
     let plan = read.plan;
     let answer = read.answer;
-    let period = plan::accepted_period(plan);
+    let period = recovery::accepted_period(plan);
     let started = System::power_on(plan);
     let system = started.system;
     let powered = node::power_on(plan);
@@ -76,10 +60,10 @@ fn nothing(answer: Answer, run: Run) -> Printed
 fn refused_line(frame: usize) -> Answer
     ensures { λ r. ⌜ r ≡ RunLine (min frame mostLines + 1) ⌝ }
 {
-    if frame < step::LINES {
+    if frame < lines::step::LINES {
         return Answer::RunLine(frame + 1);
     }
-    Answer::RunLine(step::LINES + 1)
+    Answer::RunLine(lines::step::LINES + 1)
 }
 
 // The next line of what is left, by a state that 7 and 9 do not refuse.
@@ -91,9 +75,9 @@ fn next_line(run: Run, period: usize, rest: &[u8], out: &mut [u8]) -> Printed
     let system = run.system;
     let single = run.single;
     let frame = run.frame;
-    let size = step::line_size(plan.sensors);
-    let end = step::part_end(0, rest.len(), size);
-    let s = step::line(plan, period, system, single, frame, &rest[0..end], out);
+    let size = lines::step::line_size(plan.sensors);
+    let end = lines::step::part_end(0, rest.len(), size);
+    let s = lines::step::line(plan, period, system, single, frame, &rest[0..end], out);
     if !s.taken {
         return nothing(refused_line(frame), run);
     }
@@ -118,15 +102,15 @@ pub fn next(run: Run, rest: &[u8], out: &mut [u8]) -> Printed
 {
     let plan = run.plan;
     let system = run.system;
-    let period = plan::accepted_period(plan);
+    let period = recovery::accepted_period(plan);
     if period == 0 {
         return nothing(Answer::InvalidPlan, run);
     }
     let nodes = plan.nodes;
-    if !frame::step::counts_ok(&system.good, nodes, period) {
+    if !counts::step::counts_ok(&system.good, nodes, period) {
         return nothing(Answer::MaskOrCount, run);
     }
-    let size = step::printed_size(plan.actuators);
+    let size = lines::step::printed_size(plan.actuators);
     if out.len() < size {
         return nothing(Answer::WrongLength, run);
     }
@@ -152,7 +136,7 @@ pub fn refusal(answer: Answer, out: &mut [u8]) -> TextWritten
             count: 0,
         };
     }
-    step::write_refusal(out, answer);
+    lines::step::write_refusal(out, answer);
     TextWritten {
         answer: Answer::Done,
         count: 13,

@@ -1,10 +1,10 @@
 // Repeats one call on the plan in `plan.txt`, so that bench/ can count what it costs: the difference between two counts of repeats.
-// Standard input has a row: what (width 4) and how often (8). 1: plan_text::read. 2: plan::check. 3: a node's compute, message and vote. 4: a frame of
+// Standard input has a row: what (width 4) and how often (8). 1: plan_text::read. 2: recovery::check. 3: a node's compute, message and vote. 4: a frame of
 // the whole system. 5: the same with node 0 bad. It prints a sum of what the calls gave.
 use column::Number;
 use libc::STDIN_FILENO;
 use libc::STDOUT_FILENO;
-use node::Memory;
+use memory::Memory;
 use plan::Plan;
 use system::System;
 
@@ -37,7 +37,7 @@ fn check_often(plan: Plan, times: u64) -> u64 {
     let mut k: u64 = 0;
     while k < times {
         p.initial[0] = k;
-        let answer = plan::check(p);
+        let answer = recovery::check(p);
         sum = (sum + answer.number() as u64 % 16) % 1000;
         k += 1;
     }
@@ -75,14 +75,14 @@ fn before_last(m: Memory, frames: usize) -> Memory {
 
 // The mailbox stays, so each repeat computes in the last frame, where the scan of the tasks is longest.
 fn node_often(plan: Plan, times: u64, sensors: &mut [u64], bins: &mut [u8], out: &mut [u8]) -> u64 {
-    if plan::accepted_period(plan) == 0 {
+    if recovery::accepted_period(plan) == 0 {
         return 0;
     }
     let nodes = plan.nodes;
     let frames = plan.frames;
     let cells = plan.cells;
     let count = plan.sensors;
-    let size = node::step::message_size(cells);
+    let size = memory::step::message_size(cells);
     if sensors.len() != count {
         return 0;
     }
@@ -92,15 +92,15 @@ fn node_often(plan: Plan, times: u64, sensors: &mut [u64], bins: &mut [u8], out:
     if out.len() != size {
         return 0;
     }
-    let start = before_last(node::step::power_on(plan), frames);
-    let mut m = node::step::compute(plan, start, sensors);
+    let start = before_last(memory::step::power_on(plan), frames);
+    let mut m = memory::step::compute(plan, start, sensors);
     fill_mailbox(plan, m, bins, size);
     let mut k: u64 = 0;
     while k < times {
         sensors[0] = k;
-        let next = node::step::compute(plan, m, sensors);
-        node::step::message_with(&plan.voted, frames, cells, next, out);
-        m = node::step::vote_with(&plan.voted, nodes, frames, cells, next, bins);
+        let next = memory::step::compute(plan, m, sensors);
+        memory::step::message_with(&plan.voted, frames, cells, next, out);
+        m = memory::step::vote_with(&plan.voted, nodes, frames, cells, next, bins);
         k += 1;
     }
     m.cells[0] % 1000
@@ -114,7 +114,7 @@ fn frame_often(
     faults: &[u8],
     place: &mut [u64],
 ) -> u64 {
-    let period = plan::accepted_period(plan);
+    let period = recovery::accepted_period(plan);
     if period == 0 {
         return 0;
     }
@@ -137,7 +137,7 @@ fn frame_often(
     let mut k: u64 = 0;
     while k < times {
         sensors[0] = k;
-        system = frame::step::frame(plan, period, system, sensors, mask, faults, place);
+        system = phases::step::frame(plan, period, system, sensors, mask, faults, place);
         k += 1;
     }
     place[0] % 1000
@@ -161,7 +161,7 @@ fn step_often(plan: Plan, what: u64, times: u64) -> u64 {
     if actuators > Plan::ACTUATORS {
         return 0;
     }
-    let size = node::step::message_size(cells);
+    let size = memory::step::message_size(cells);
     let block = exchange::step::fault_size(nodes, cells, actuators);
     let all = nodes * block;
     let end = nodes * size;

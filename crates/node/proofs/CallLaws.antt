@@ -7,7 +7,7 @@ use Rattle.answer.specs.declared.Answer.{Answer}
 use Rattle.answer.specs.declared.Answer.the-variants.{Done, InvalidPlan, WrongLength}
 use Rattle.plan.specs.declared.Plan.{Plan}
 use Rattle.plan.specs.Accepted.{accepted}
-use Rattle.node.specs.declared.Memory.{Memory}
+use Rattle.memory.specs.declared.Memory.{Memory}
 use Rattle.node.specs.declared.Outcome.{Outcome}
 use Rattle.node.specs.Answers.{lengthChecked, ifRight}
 

@@ -2,7 +2,6 @@
 -- and a new memory is all zero.
 use mathlib.Core.Bool.{Bool, cond, _&&_}
 use mathlib.Core.List.{List}
-use mathlib.Core.Option.{Option, none, some}
 use Prim.Native.Nat.{ℕ}
 use lib.Dec.{eqb}
 use lib.ListN.{length}
@@ -11,18 +10,11 @@ use Rattle.answer.specs.declared.Answer.{Answer}
 use Rattle.answer.specs.declared.Answer.the-variants.{Done, InvalidPlan, WrongLength}
 use Rattle.plan.specs.declared.Plan.{Plan}
 use Rattle.plan.specs.Accepted.{accepted}
-use Rattle.plan.specs.Answers.{checked}
-use Rattle.node.specs.declared.Memory.{Memory}
+use Rattle.recovery.specs.Answers.{checked}
+use Rattle.memory.specs.declared.Memory.{Memory}
 use Rattle.node.specs.declared.Outcome.{Outcome}
-use Rattle.node.specs.declared.Voted.{Voted}
-use Rattle.node.specs.declared.Voted.the-variants.{Value, Nothing}
-use Rattle.node.specs.Size.{messageSize, mailboxSize}
-use Rattle.node.specs.Node.{zeroMemory, poweredOn, computed, messageOf, voted, setpoint}
-
--- what the cases of the code's enum say
-abbrev pub valueOf : Voted → Option ℕ
-valueOf (Value v) = some v
-valueOf Nothing = none
+use Rattle.memory.specs.Size.{messageSize, mailboxSize}
+use Rattle.memory.specs.Node.{zeroMemory, poweredOn, computed, messageOf, voted, setpoint}
 
 -- 7, then 8 for a length that is not the wanted one
 unfoldable pub lengthChecked : Plan → ℕ → ℕ → Answer

@@ -1,51 +1,28 @@
-// One node: power-on, compute, message, vote, setpoints. Each call tests the plan and the lengths; the steps under them are in `step`.
+// One node: power-on, compute, message, vote, setpoints. Each call tests the plan and the lengths; the steps under them are those of `memory`.
 ghost use mathlib.Core.Path.{_≡_};
 ghost use lib.ListN.{length};
-ghost use Rattle.node.specs.Size.{messageSize};
-ghost use Rattle.node.specs.Node.{zeroMemory};
+ghost use Rattle.memory.specs.Size.{messageSize};
 ghost use Rattle.node.specs.Answers.{lengthChecked, powerOnAnswer, computeAnswer, voteAnswer, messagePlace, setpointPlace};
 use answer::Answer;
+use memory::Memory;
 use plan::Plan;
-
-pub mod step;
-
-// Any memory is legal input; what lies past the plan's cells is neither read nor changed.
-pub struct Memory {
-    pub counter: u16,
-    pub cells: [u64; Plan::CELLS],
-}
 
 pub struct Outcome {
     pub answer: Answer,
     pub memory: Memory,
 }
 
-// A value that more than half of the bins share, if there is one.
-pub enum Voted {
-    Value(u64),
-    Nothing,
-}
-
-pub fn zero_memory() -> Memory
-    ensures { λ r. ⌜ r ≡ zeroMemory ⌝ }
-{
-    Memory {
-        counter: 0,
-        cells: [0; Plan::CELLS],
-    }
-}
-
 pub fn power_on(plan: Plan) -> Outcome
     ensures { λ r. ⌜ r ≡ powerOnAnswer plan ⌝ }
 {
-    if plan::accepted_period(plan) == 0 {
-        let memory = zero_memory();
+    if recovery::accepted_period(plan) == 0 {
+        let memory = memory::zero_memory();
         return Outcome {
             answer: Answer::InvalidPlan,
             memory,
         };
     }
-    let memory = step::power_on(plan);
+    let memory = memory::step::power_on(plan);
     Outcome {
         answer: Answer::Done,
         memory,
@@ -55,7 +32,7 @@ pub fn power_on(plan: Plan) -> Outcome
 pub fn compute(plan: Plan, memory: Memory, sensors: &[u64]) -> Outcome
     ensures { λ r. ⌜ r ≡ computeAnswer plan memory (now (sensors .entry)) ⌝ }
 {
-    if plan::accepted_period(plan) == 0 {
+    if recovery::accepted_period(plan) == 0 {
         return Outcome {
             answer: Answer::InvalidPlan,
             memory,
@@ -68,7 +45,7 @@ pub fn compute(plan: Plan, memory: Memory, sensors: &[u64]) -> Outcome
             memory,
         };
     }
-    let next = step::compute(plan, memory, sensors);
+    let next = memory::step::compute(plan, memory, sensors);
     Outcome {
         answer: Answer::Done,
         memory: next,
@@ -78,21 +55,21 @@ pub fn compute(plan: Plan, memory: Memory, sensors: &[u64]) -> Outcome
 pub fn message(plan: Plan, memory: Memory, out: &mut [u8]) -> Answer
     ensures { λ r. ⌜ (r ≡ lengthChecked plan (length (now (out .entry))) (messageSize plan)) × (now (out .exit) ≡ messagePlace plan memory (now (out .entry))) ⌝ }
 {
-    if plan::accepted_period(plan) == 0 {
+    if recovery::accepted_period(plan) == 0 {
         return Answer::InvalidPlan;
     }
     let cells = plan.cells;
-    if out.len() != step::message_size(cells) {
+    if out.len() != memory::step::message_size(cells) {
         return Answer::WrongLength;
     }
-    step::message(plan, memory, out);
+    memory::step::message(plan, memory, out);
     Answer::Done
 }
 
 pub fn vote(plan: Plan, memory: Memory, mailbox: &[u8]) -> Outcome
     ensures { λ r. ⌜ r ≡ voteAnswer plan memory (now (mailbox .entry)) ⌝ }
 {
-    if plan::accepted_period(plan) == 0 {
+    if recovery::accepted_period(plan) == 0 {
         return Outcome {
             answer: Answer::InvalidPlan,
             memory,
@@ -100,13 +77,13 @@ pub fn vote(plan: Plan, memory: Memory, mailbox: &[u8]) -> Outcome
     }
     let nodes = plan.nodes;
     let cells = plan.cells;
-    if mailbox.len() != nodes * step::message_size(cells) {
+    if mailbox.len() != nodes * memory::step::message_size(cells) {
         return Outcome {
             answer: Answer::WrongLength,
             memory,
         };
     }
-    let next = step::vote(plan, memory, mailbox);
+    let next = memory::step::vote(plan, memory, mailbox);
     Outcome {
         answer: Answer::Done,
         memory: next,
@@ -116,13 +93,13 @@ pub fn vote(plan: Plan, memory: Memory, mailbox: &[u8]) -> Outcome
 pub fn setpoints(plan: Plan, memory: Memory, out: &mut [u64]) -> Answer
     ensures { λ r. ⌜ (r ≡ lengthChecked plan (length (now (out .entry))) (plan .actuators)) × (now (out .exit) ≡ setpointPlace plan memory (now (out .entry))) ⌝ }
 {
-    if plan::accepted_period(plan) == 0 {
+    if recovery::accepted_period(plan) == 0 {
         return Answer::InvalidPlan;
     }
     let wanted = plan.actuators;
     if out.len() != wanted {
         return Answer::WrongLength;
     }
-    step::setpoints(plan, memory, out);
+    memory::step::setpoints(plan, memory, out);
     Answer::Done
 }

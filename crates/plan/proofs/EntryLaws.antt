@@ -1,5 +1,5 @@
--- Laws of the tests of a record's entries, for the loops of src/entries.rt; of what every value of the Rattle type has, which no
--- call tests; and of the answers, by the period.
+-- Laws of the tests of a record's entries, for the loops of src/entries.rt, and of what every value of the Rattle type has, which no
+-- call tests.
 use mathlib.Core.Path.{_≡_, refl, sym, _∙_}
 use mathlib.Core.Logic.{_⊎_, inl, inr}
 use mathlib.Core.List.{List, [], _∷_, map}
@@ -20,7 +20,6 @@ use borrow.Author.Tests.{lt-ltb, le-ltb, le-leb, eqb-true, eqb-false, eq-eqb, ne
 use Rattle.array.specs.Index.{allBelow}
 use Rattle.array.proofs.IndexLaws.{allBelow-at, allBelow-all}
 use Rattle.array.proofs.TestLaws.{split, and-right, and-both}
-use Rattle.answer.specs.declared.Answer.the-variants.{Done, InvalidPlan}
 use Rattle.plan.specs.declared.Op.{Op}
 use Rattle.plan.specs.declared.Op.the-variants.{Take, Sum, Diff, Scale, Limit, Wind}
 use Rattle.plan.specs.declared.Task.{Task}
@@ -41,7 +40,6 @@ use Rattle.plan.specs.Accepted.{
   wellFormed,
   accepted,
 }
-use Rattle.plan.specs.Answers.{checked, acceptedPeriod}
 use Rattle.plan.proofs.Op as OpType
 use Rattle.plan.proofs.Task as TaskType
 use Rattle.plan.proofs.Plan as PlanType
@@ -235,33 +233,3 @@ module _ (p : Plan) where
       → r ≡ wellFormed p
   unfolding wellFormed entriesOk initialEntry voteEntry votedIn actuatorEntry
   all-but-actuators s eh h et t ei i ev v a = rw (s, passed eh h, passed et t, passed ei i, passed ev v) a
-
--- ---- the answers, by the period found
-
-module _ (p : Plan) where
-  pub period-accepted : wellFormed p ≡ true → period p ≡ acceptedPeriod p
-  unfolding acceptedPeriod accepted
-  period-accepted w = rw w (split (eqb (period p) 0) (λ t. rw t (eqb-true (period p) 0 t)) (λ t. rw t))
-
-  pub none-accepted : wellFormed p ≡ false → 0 ≡ acceptedPeriod p
-  unfolding acceptedPeriod accepted
-  none-accepted w = rw w
-
-  refused : acceptedPeriod p ≡ 0 → accepted p ≡ false
-  unfolding acceptedPeriod accepted
-  refused z =
-      split (accepted p)
-      (λ t. absurd (eqb-false (period p) 0 (not-true (eqb (period p) 0) (and-right (wellFormed p) (not (eqb (period p) 0)) t)) (rw t at z)))
-      (λ t. t)
-
-  taken : (acceptedPeriod p ≡ 0 → ⊥) → accepted p ≡ true
-  unfolding acceptedPeriod
-  taken f = split (accepted p) (λ t. t) (λ t. absurd (f (rw t)))
-
-  pub checked-refused : acceptedPeriod p ≡ 0 → InvalidPlan ≡ checked p
-  unfolding checked
-  checked-refused z = rw (refused z)
-
-  pub checked-done : (acceptedPeriod p ≡ 0 → ⊥) → Done ≡ checked p
-  unfolding checked
-  checked-done f = rw (taken f)

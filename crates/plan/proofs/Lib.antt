@@ -1,7 +1,4 @@
 pub mod AcceptedLaws
 pub mod KnownLaws
 pub mod PeriodLaws
-pub mod WalkLaws
-pub mod WalkedLaws
 pub mod EntryLaws
-pub mod AnswerLaws

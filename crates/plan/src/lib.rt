@@ -1,12 +1,9 @@
-// The plan record: which records an accepted text has, and the recovery period.
+// The plan record, and which records are of form. The recovery period is in `recovery`.
 ghost use mathlib.Core.Path.{_≡_};
 ghost use Rattle.plan.specs.Accepted.{wellFormed};
-ghost use Rattle.plan.specs.Answers.{checked, acceptedPeriod, periodFound};
-use answer::Answer;
 use pattern::WindLaw;
 
 pub mod entries;
-pub mod step;
 
 // A task is one of six kinds with the constants of its own kind. The numbers are cells, but for Take's sensor.
 pub enum Op {
@@ -55,12 +52,7 @@ impl Plan {
     pub const VOTES: usize = Plan::FRAMES * Plan::CELLS;
 }
 
-pub struct PeriodFound {
-    pub answer: Answer,
-    pub period: usize,
-}
-
-fn well_formed(p: Plan) -> bool
+pub fn well_formed(p: Plan) -> bool
     ensures { λ r. ⌜ r ≡ wellFormed p ⌝ }
 {
     let nodes = p.nodes;
@@ -82,39 +74,4 @@ fn well_formed(p: Plan) -> bool
         return false;
     }
     entries::actuators_ok(&p.actuator_cell, actuators, cells)
-}
-
-// The recovery period of an accepted record, and 0 for all others: the test of a record for the calls above.
-pub fn accepted_period(plan: Plan) -> usize
-    ensures { λ r. ⌜ r ≡ acceptedPeriod plan ⌝ }
-{
-    if well_formed(plan) {
-        return step::period(plan);
-    }
-    0
-}
-
-pub fn check(plan: Plan) -> Answer
-    ensures { λ r. ⌜ r ≡ checked plan ⌝ }
-{
-    if accepted_period(plan) == 0 {
-        return Answer::InvalidPlan;
-    }
-    Answer::Done
-}
-
-pub fn recovery_period(plan: Plan) -> PeriodFound
-    ensures { λ r. ⌜ r ≡ periodFound plan ⌝ }
-{
-    let period = accepted_period(plan);
-    if period == 0 {
-        return PeriodFound {
-            answer: Answer::InvalidPlan,
-            period: 0,
-        };
-    }
-    PeriodFound {
-        answer: Answer::Done,
-        period,
-    }
 }

@@ -1,12 +1,4 @@
-pub mod ReaderLaws
-pub mod LineLaws
-pub mod RefusedLaws
-pub mod WriterLaws
-pub mod MeantLaws
-pub mod PartLaws
-pub mod WrittenLaws
-pub mod ToldLaws
-pub mod BackLaws
-pub mod TextLaws
 pub mod StoreLaws
 pub mod ReadLaws
+pub mod TextLaws
+pub mod WriteLaws

@@ -16,18 +16,18 @@ use Rattle.plan.specs.Limits.{mostTasks}
 use Rattle.plan.specs.Known.{period}
 use Rattle.plan.specs.Accepted.{wellFormed}
 use Rattle.plan_text.specs.declared.PlanRead.{PlanRead}
-use Rattle.plan_text.specs.declared.reading.Line.{Line}
-use Rattle.plan_text.specs.declared.reading.LineRead.{LineRead}
-use Rattle.plan_text.specs.declared.reading.LineRead.the-variants.{Whole, Malformed as NoLine}
-use Rattle.plan_text.specs.Line.{widths, lineSize, mostLines, lineCount, numbersAt, lineAt}
-use Rattle.plan_text.specs.Meant.{zeroPlan, withLine, planTo, planOf}
-use Rattle.plan_text.specs.Refused.{lengthOk, isHeader, inOrder, inRange, lineRefusal, firstRefusal, isLast, linesRefusal, textRefusal}
+use Rattle.plan_line.specs.declared.Line.{Line}
+use Rattle.plan_line.specs.declared.LineRead.{LineRead}
+use Rattle.plan_line.specs.declared.LineRead.the-variants.{Whole, Malformed as NoLine}
+use Rattle.text.specs.Line.{widths, lineSize, mostLines, lineCount, numbersAt, lineAt}
+use Rattle.text.specs.Meant.{zeroPlan, withLine, planTo, planOf}
+use Rattle.text.specs.Refused.{lengthOk, isHeader, inOrder, inRange, lineRefusal, firstRefusal, isLast, linesRefusal, textRefusal}
 use Rattle.plan_text.specs.Answers.{unlessRefused, readAnswer}
-use Rattle.plan_text.specs.Reader.{numbersIn, numbersRead}
-use Rattle.plan_text.proofs.LineLaws.{slice-part, lineAt-is, some-line, few-lines}
-use Rattle.plan_text.proofs.MeantLaws.{planTo-start, planTo-more, planTo-tasks, planTo-count}
-use Rattle.plan_text.proofs.RefusedLaws.{first-start, first-more, line-malformed, not-header, header-passes, refused-order, refused-range, not-refused, lines-none, lines-refused, lines-missing, text-wrong-length, text-refused, text-unrecoverable, text-none}
-use Rattle.plan_text.proofs.ToldLaws.{text-wellFormed}
+use Rattle.plan_line.specs.Reader.{numbersIn, numbersRead}
+use Rattle.text.proofs.LineLaws.{slice-part, lineAt-is, some-line, few-lines}
+use Rattle.text.proofs.MeantLaws.{planTo-start, planTo-more, planTo-tasks, planTo-count}
+use Rattle.text.proofs.RefusedLaws.{first-start, first-more, line-malformed, not-header, header-passes, refused-order, refused-range, not-refused, lines-none, lines-refused, lines-missing, text-wrong-length, text-refused, text-unrecoverable, text-none}
+use Rattle.text.proofs.ToldLaws.{text-wellFormed}
 
 -- ---- a test that the code makes
 

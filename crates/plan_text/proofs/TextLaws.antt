@@ -12,13 +12,13 @@ use Rattle.plan.specs.declared.Plan.{Plan}
 use Rattle.plan.specs.Known.{period}
 use Rattle.plan.specs.Accepted.{wellFormed, accepted}
 use Rattle.plan.proofs.AcceptedLaws.{period-of-accepted}
-use Rattle.plan_text.specs.Written.{planText}
-use Rattle.plan_text.specs.Meant.{planOf}
-use Rattle.plan_text.specs.Refused.{textRefusal}
+use Rattle.text.specs.Written.{planText}
+use Rattle.text.specs.Meant.{planOf}
+use Rattle.text.specs.Refused.{textRefusal}
 use Rattle.plan_text.specs.Answers.{unlessRefused, readAnswer}
-use Rattle.plan_text.proofs.RefusedLaws.{text-none, text-length-ok, text-lines-ok, text-period}
-use Rattle.plan_text.proofs.ToldLaws.{text-wellFormed, text-of-plan}
-use Rattle.plan_text.proofs.BackLaws.{planText-length, planText-lines, plan-of-text}
+use Rattle.text.proofs.RefusedLaws.{text-none, text-length-ok, text-lines-ok, text-period}
+use Rattle.text.proofs.ToldLaws.{text-wellFormed, text-of-plan}
+use Rattle.text.proofs.BackLaws.{planText-length, planText-lines, plan-of-text}
 
 -- ---- from a plan to its text and back
 

@@ -11,9 +11,9 @@ use Rattle.plan.specs.declared.Plan.{Plan}
 use Rattle.plan.specs.Accepted.{accepted}
 use Rattle.plan_text.specs.declared.PlanRead.{PlanRead}
 use Rattle.plan_text.specs.declared.TextWritten.{TextWritten}
-use Rattle.plan_text.specs.Written.{planText}
-use Rattle.plan_text.specs.Meant.{zeroPlan, planOf}
-use Rattle.plan_text.specs.Refused.{textRefusal}
+use Rattle.text.specs.Written.{planText}
+use Rattle.text.specs.Meant.{zeroPlan, planOf}
+use Rattle.text.specs.Refused.{textRefusal}
 
 -- the plan, or beside a refusal the all-zero one
 unfoldable pub unlessRefused : Option Answer → Plan → Plan

@@ -6,20 +6,17 @@ ghost use mathlib.Core.Option.{some};
 ghost use lib.ListN.{length};
 ghost use Rattle.answer.specs.declared.Answer.the-variants.{Done};
 ghost use Rattle.plan.specs.Limits.{mostFrames, mostCells, mostActuators};
-ghost use Rattle.plan_text.specs.Line.{lineSize, lineCount, numbersAt, cellKind, voteKind, actuatorKind};
-ghost use Rattle.plan_text.specs.Meant.{zeroPlan, initialWith, votedWith, actuatorsWith};
-ghost use Rattle.plan_text.specs.Refused.{lengthOk, isHeader};
+ghost use Rattle.text.specs.Line.{lineSize, lineCount, numbersAt, cellKind, voteKind, actuatorKind};
+ghost use Rattle.text.specs.Meant.{zeroPlan, initialWith, votedWith, actuatorsWith};
+ghost use Rattle.text.specs.Refused.{lengthOk, isHeader};
 ghost use Rattle.plan_text.specs.Answers.{readAnswer, writeAnswer, writePlace};
-ghost use Rattle.plan_text.specs.Reader.{numbersIn};
+ghost use Rattle.plan_line.specs.Reader.{numbersIn};
 use answer::Answer;
 use plan::Op;
 use plan::Plan;
 use plan::Task;
-use reading::Line;
-use reading::LineRead;
-
-mod reading;
-pub mod step;
+use plan_line::Line;
+use plan_line::LineRead;
 
 pub struct PlanRead {
     pub answer: Answer,
@@ -113,21 +110,21 @@ fn read_lines(text: &[u8], h: Line) -> PlanRead
     let mut i: usize = 1;
     while i < lines {
         let at = 57 * i;
-        let LineRead::Whole(l) = reading::read_line(&text[at..at + 57]) else {
+        let LineRead::Whole(l) = plan_line::read_line(&text[at..at + 57]) else {
             return refused(Answer::Malformed(i + 1));
         };
-        if !reading::in_order(h, i - 1, prev, l) {
+        if !plan_line::in_order(h, i - 1, prev, l) {
             return refused(Answer::OutOfOrder(i + 1));
         }
-        if !reading::in_range(h, l) {
+        if !plan_line::in_range(h, l) {
             return refused(Answer::OutOfRange(i + 1));
         }
         store_initial(&mut plan.initial, l);
         store_vote(&mut plan.voted, l);
         store_actuator(&mut plan.actuator_cell, l);
-        if reading::is_task(l.kind) {
+        if plan_line::is_task(l.kind) {
             let count = plan.task_count;
-            let t = reading::task_of(l);
+            let t = plan_line::task_of(l);
             if count < Plan::TASKS {
                 plan.tasks[count] = t;
             }
@@ -136,10 +133,10 @@ fn read_lines(text: &[u8], h: Line) -> PlanRead
         prev = l;
         i += 1;
     }
-    if !reading::is_last(h, prev) {
+    if !plan_line::is_last(h, prev) {
         return refused(Answer::OutOfOrder(lines + 1));
     }
-    if plan::step::period(plan) == 0 {
+    if recovery::step::period(plan) == 0 {
         return refused(Answer::Unrecoverable);
     }
     PlanRead {
@@ -154,10 +151,10 @@ pub fn read(text: &[u8]) -> PlanRead
     if !length_ok(text.len()) {
         return refused(Answer::TextLength);
     }
-    let LineRead::Whole(h) = reading::read_line(&text[0..57]) else {
+    let LineRead::Whole(h) = plan_line::read_line(&text[0..57]) else {
         return refused(Answer::Malformed(1));
     };
-    if !reading::is_header(h) {
+    if !plan_line::is_header(h) {
         return refused(Answer::Header);
     }
     read_lines(text, h)
@@ -166,20 +163,20 @@ pub fn read(text: &[u8]) -> PlanRead
 pub fn write(plan: Plan, out: &mut [u8]) -> TextWritten
     ensures { λ r. ⌜ (r ≡ writeAnswer plan (length (now (out .entry)))) × (now (out .exit) ≡ writePlace plan (now (out .entry))) ⌝ }
 {
-    if plan::accepted_period(plan) == 0 {
+    if recovery::accepted_period(plan) == 0 {
         return TextWritten {
             answer: Answer::InvalidPlan,
             count: 0,
         };
     }
-    let count = step::text_size(plan);
+    let count = plan_writer::step::text_size(plan);
     if out.len() < count {
         return TextWritten {
             answer: Answer::WrongLength,
             count: 0,
         };
     }
-    step::write(plan, out);
+    plan_writer::step::write(plan, out);
     TextWritten {
         answer: Answer::Done,
         count,

@@ -17,22 +17,22 @@ use Rattle.plan.specs.declared.Plan.{Plan}
 use Rattle.plan.specs.Limits.{mostNodes, mostCells}
 use Rattle.plan.specs.Known.{votedIn, period as periodOf}
 use Rattle.plan.proofs.AcceptedLaws.{Shape, shape-of-accepted}
-use Rattle.node.specs.declared.Memory.{Memory}
-use Rattle.node.specs.Size.{counterSize, patternSize, cellAt, binSize, binAt}
-use Rattle.node.specs.Majority.{majority}
-use Rattle.node.specs.Node.{zeroMemory, computed, messageOf, before, sentCell, counterIn, cellIn, votedCounter, votedCell, voted, setpoint}
-use Rattle.node.proofs.MajorityLaws.{majority-same}
-use Rattle.node.proofs.MessageLaws.{message-length, counterIn-message, cellIn-message}
-use Rattle.node.proofs.NodeLaws.{computed-small}
+use Rattle.memory.specs.declared.Memory.{Memory}
+use Rattle.memory.specs.Size.{counterSize, patternSize, cellAt, binSize, binAt}
+use Rattle.ballot.specs.Majority.{majority}
+use Rattle.memory.specs.Node.{zeroMemory, computed, messageOf, before, sentCell, counterIn, cellIn, votedCounter, votedCell, voted, setpoint}
+use Rattle.ballot.proofs.MajorityLaws.{majority-same}
+use Rattle.memory.proofs.MessageLaws.{message-length, counterIn-message, cellIn-message}
+use Rattle.memory.proofs.NodeLaws.{computed-small}
 use Rattle.system.specs.declared.System.{System}
 use Rattle.system.specs.Fault.{faultSize, faultsSize, faultAt, faultMessageAt, faultSetpointAt, faultMemory, faultMessage, faultSetpoint}
 use Rattle.system.specs.Plane.{plane}
 use Rattle.system.specs.Frame.{memoryOf, computedBy, heard, mailboxOf, memoryAfter, putOut, goodAfter, systemAfter, placeAfter}
 use Rattle.system.proofs.FaultLaws.{faultMessage-length}
-use Rattle.exchange.proofs.StepLaws.{plane-same}
+use Rattle.outputs.proofs.OutputLaws.{plane-same}
 use Rattle.exchange.proofs.MailLaws.{bin-of, memory-ends, message-ends, setpoints-end}
 use Rattle.exchange.proofs.GoodLaws.{be-part}
-use Rattle.frame.proofs.FrameLaws.{fault-computed}
+use Rattle.phases.proofs.FrameLaws.{fault-computed}
 use Rattle.rows.specs.Rows.{wordCount, rowOf, memoryIn, Rows, Through, faultCounter, faultWord, spoiled, frameBefore, votedAt, wordOf, votedBy, counterSent, wordSent, votedRow, Ready, filled, Lent}
 use Rattle.rows.proofs.RowLaws.{row-at, row-length, memory-eq}
 

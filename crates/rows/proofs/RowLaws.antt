@@ -17,13 +17,14 @@ use Rattle.array.proofs.TestLaws.{split}
 use Rattle.array.proofs.PlacesLaws.{fill-length, fill-in, fill-same}
 use Rattle.plan.specs.declared.Plan.{Plan}
 use Rattle.plan.specs.Limits.{mostNodes, mostCells}
-use Rattle.node.specs.declared.Memory.{Memory}
-use Rattle.node.specs.Task.{runTasks}
-use Rattle.node.specs.Node.{zeroMemory, computed}
-use Rattle.node.proofs.StepLaws.{computed-is}
+use Rattle.memory.specs.declared.Memory.{Memory}
+use Rattle.task.specs.Task.{runTasks}
+use Rattle.memory.specs.Node.{zeroMemory, computed}
+use Rattle.memory.proofs.StepLaws.{computed-is}
 use Rattle.system.specs.declared.System.{System}
-use Rattle.exchange.specs.Mail.{placed}
-use Rattle.exchange.proofs.MailLaws.{placed-before, placed-after, part-back}
+use Rattle.array.specs.Place.{placed}
+use Rattle.array.proofs.PlacedLaws.{placed-before, placed-after}
+use Rattle.exchange.proofs.MailLaws.{part-back}
 use Rattle.rows.specs.Rows.{rowOf, memoryIn, Rows, Stored, Through, faultCounter, faultWord, spoiled}
 
 -- ---- a row by its words
@@ -101,12 +102,12 @@ module _ (cells part : List ℕ) (r : ℕ) {a k : ℕ} (at : a ≡ mostCells * r
       room = omega arith
 
       by : (d : ℕ) → d < mostCells → (b : Bool) → ltb q r ≡ b → getD (placed cells a part) (mostCells * q + d) 0 ≡ getD cells (mostCells * q + d) 0
-      by d l true t = let m : q < r = ltb-true q r t in placed-before cells part a room (mostCells * q + d) (omega arith)
+      by d l true t = let m : q < r = ltb-true q r t in placed-before cells a part room (mostCells * q + d) (omega arith)
       by d l false t =
           let m : r ≤ q = ltb-false q r t in
           let i : ℕ = mostCells * q + d - (a + length part) in
           let e : a + length part + i ≡ mostCells * q + d = omega (arith, ne) in
-          subst (λ (n : ℕ). getD (placed cells a part) n 0 ≡ getD cells n 0) e (placed-after cells part a room i)
+          subst (λ (n : ℕ). getD (placed cells a part) n 0 ≡ getD cells n 0) e (placed-after cells a part room i)
 
 -- ---- a loop over rows
 

@@ -11,9 +11,10 @@ use Rattle.array.specs.Bit.{bit}
 use Rattle.plan.specs.declared.Plan.{Plan}
 use Rattle.plan.specs.Limits.{mostNodes, mostCells}
 use Rattle.plan.specs.Accepted.{accepted}
-use Rattle.node.specs.declared.Memory.{Memory}
-use Rattle.node.specs.Majority.{majority}
-use Rattle.node.specs.Node.{computed, orOwn}
+use Rattle.memory.specs.declared.Memory.{Memory}
+use Rattle.ballot.specs.Majority.{majority}
+use Rattle.ballot.specs.Majority.{orOwn}
+use Rattle.memory.specs.Node.{computed}
 use Rattle.system.specs.declared.System.{System}
 use Rattle.system.specs.Fault.{faultsSize}
 use Rattle.system.specs.Frame.{memoryOf}

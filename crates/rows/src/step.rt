@@ -11,13 +11,14 @@ ghost use Rattle.array.specs.Bit.{bit};
 ghost use Rattle.plan.specs.Limits.{mostNodes, mostFrames, mostCells, mostActuators};
 ghost use Rattle.plan.specs.Known.{period as periodOf};
 ghost use Rattle.plan.specs.Accepted.{accepted};
-ghost use Rattle.node.specs.Node.{computed, orOwn};
-ghost use Rattle.node.specs.Majority.{majority as majorityOf};
+ghost use Rattle.ballot.specs.Majority.{orOwn};
+ghost use Rattle.memory.specs.Node.{computed};
+ghost use Rattle.ballot.specs.Majority.{majority as majorityOf};
 ghost use Rattle.system.specs.Plane.{plane as planeOf};
 ghost use Rattle.system.specs.Frame.{systemAfter, placeAfter};
 ghost use Rattle.rows.specs.Rows.{rowCount, wordCount, rowOf, memoryIn, Rows, Stored, Through, spoiled, frameBefore, votedAt, votedRow, heardWord, handed, votedWord, sameRow, Ready, filled, Lent};
-use node::Memory;
-use node::Voted;
+use ballot::Voted;
+use memory::Memory;
 use plan::Plan;
 use system::System;
 
@@ -126,7 +127,7 @@ pub fn compute(plan: Plan, sensors: &[u64], counters: &mut [u16], cells: &mut [u
     while r < rows {
         let g = counters[r] as usize % frames;
         let at = Plan::CELLS * r;
-        skipped = frame::step::begin(last, skipped, g);
+        skipped = phases::step::begin(last, skipped, g);
         last = g;
         let mut k = skipped;
         while k < count {
@@ -136,7 +137,7 @@ pub fn compute(plan: Plan, sensors: &[u64], counters: &mut [u16], cells: &mut [u
             }
             if frame == g {
                 let t = plan.tasks[k];
-                node::step::run_task_in(&mut cells[at..at + Plan::CELLS], t, sensors);
+                task::step::run_task_in(&mut cells[at..at + Plan::CELLS], t, sensors);
             } else {
                 skipped = k;
             }
@@ -167,7 +168,7 @@ fn spoil(nodes: usize, count: usize, mask: u64, fill: u64, counters: &mut [u16],
 {
     let mut j: usize = 0;
     while j < nodes {
-        if exchange::step::is_bad(mask, j) {
+        if counts::step::is_bad(mask, j) {
             let at = Plan::CELLS * (j + 1);
             counters[j + 1] = (257 * fill) as u16;
             spread(
@@ -190,7 +191,7 @@ fn frames_before(counters: &[u16], nodes: usize, frames: usize) -> [usize; Syste
     let mut all = [0usize; System::NODES];
     let mut j: usize = 0;
     while j < nodes {
-        all[j] = node::step::frame_before(counters[j + 1], frames);
+        all[j] = memory::step::frame_before(counters[j + 1], frames);
         j += 1;
     }
     all
@@ -221,7 +222,7 @@ fn agreed(counters: &[u16], nodes: usize, frames: usize) -> usize
     ensures { λ r. ⌜ r ≡ orOwn frames frames (majorityOf (λ j. getD (now (counters .entry)) (j + 1) 0) nodes nodes) ⌝ }
 {
     let words = counter_words(counters, nodes);
-    let Voted::Value(x) = node::step::majority(&words, nodes, nodes) else {
+    let Voted::Value(x) = ballot::step::majority(&words, nodes, nodes) else {
         return frames;
     };
     if x < frames as u64 {
@@ -236,7 +237,7 @@ fn settle_counters(nodes: usize, mask: u64, counter: u16, counters: &mut [u16])
 {
     let mut j: usize = 0;
     while j < nodes {
-        if !exchange::step::is_bad(mask, j) {
+        if !counts::step::is_bad(mask, j) {
             counters[j + 1] = counter;
         }
         j += 1;
@@ -265,7 +266,7 @@ fn heard(
     let mut j: usize = 0;
     while j < nodes {
         let g = sent[j];
-        let whole = exchange::step::is_bad(mask, j) | voted[Plan::CELLS * g + c];
+        let whole = counts::step::is_bad(mask, j) | voted[Plan::CELLS * g + c];
         words[j] = sent_word(whole, cells[Plan::CELLS * (j + 1) + c]);
         j += 1;
     }
@@ -288,7 +289,7 @@ fn hand_out(
     let mut j: usize = 0;
     while j < nodes {
         let g = votes[j];
-        if !exchange::step::is_bad(mask, j) & voted[Plan::CELLS * g + c] {
+        if !counts::step::is_bad(mask, j) & voted[Plan::CELLS * g + c] {
             cells[Plan::CELLS * (j + 1) + c] = x;
         }
         j += 1;
@@ -309,7 +310,7 @@ fn vote_cell(
     ensures { λ _. ⌜ ((start : List ℕ) → ((q d : ℕ) → d < mostCells → getD (now (cells .entry)) (mostCells * q + d) 0 ≡ votedWord (now (voted .entry)) nodes mask (now (sent .entry)) (now (votes .entry)) start c q d) → (q d : ℕ) → d < mostCells → getD (now (cells .exit)) (mostCells * q + d) 0 ≡ votedWord (now (voted .entry)) nodes mask (now (sent .entry)) (now (votes .entry)) start (c + 1) q d) ⌝ }
 {
     let words = heard(voted, nodes, mask, sent, cells, c);
-    let Voted::Value(x) = node::step::majority(&words, nodes, nodes) else {
+    let Voted::Value(x) = ballot::step::majority(&words, nodes, nodes) else {
         return;
     };
     hand_out(voted, nodes, mask, votes, cells, c, x);
@@ -366,7 +367,7 @@ fn vote(
     if counter < frames {
         let x = counter as u16;
         settle_counters(nodes, mask, x, counters);
-        one = node::step::frame_before(x, frames);
+        one = memory::step::frame_before(x, frames);
     }
     let votes = frames_before(counters, nodes, frames);
     vote_cells(voted, nodes, count, mask, one, &sent, &votes, cells);
@@ -401,7 +402,7 @@ fn planes<'a>(
     while a < actuators {
         let cell = table[a];
         let values = column(cells, cell, nodes);
-        place[a] = frame::step::plane(&values, nodes);
+        place[a] = outputs::step::plane(&values, nodes);
         a += 1;
     }
 }
@@ -412,7 +413,7 @@ fn counts(good: &mut [u16; System::NODES], nodes: usize, mask: u64, period: usiz
 {
     let mut i: usize = 0;
     while i < nodes {
-        good[i] = frame::step::count_after(exchange::step::is_bad(mask, i), good[i], period);
+        good[i] = counts::step::count_after(counts::step::is_bad(mask, i), good[i], period);
         i += 1;
     }
 }
@@ -456,7 +457,7 @@ pub fn working(good: &[u16; System::NODES], nodes: usize, period: usize, mask: u
     let mut count: usize = 0;
     let mut j: usize = 0;
     while j < nodes {
-        if !exchange::step::is_bad(mask, j) & is_full(good[j], period) {
+        if !counts::step::is_bad(mask, j) & is_full(good[j], period) {
             count += 1;
         }
         j += 1;

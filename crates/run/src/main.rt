@@ -6,17 +6,17 @@ ghost use Prim.Native.Nat.{_*_, _<_, _≤_};
 ghost use lib.ListN.{length};
 ghost use Rattle.plan.specs.Known.{period as periodOf};
 ghost use Rattle.plan.specs.Accepted.{accepted};
-ghost use Rattle.listing.specs.Line.{runLineSize, printedSize};
-ghost use Rattle.listing.specs.Listing.{mostLines};
-ghost use Rattle.listing.specs.Step.{blockLines};
+ghost use Rattle.lines.specs.Line.{runLineSize, printedSize};
+ghost use Rattle.lines.specs.Listing.{mostLines};
+ghost use Rattle.lines.specs.Step.{blockLines};
 use answer::Answer;
 use libc::STDOUT_FILENO;
-use listing::Run;
+use lines::Run;
 
 // The longest block of run lines, and of printed ones.
-const INPUT: usize = listing::step::BLOCK * 329;
+const INPUT: usize = lines::step::BLOCK * 329;
 
-const OUTPUT: usize = listing::step::BLOCK * 177;
+const OUTPUT: usize = lines::step::BLOCK * 177;
 
 // More than the longest plan text, so that a longer file is seen to be too long.
 const TEXT: usize = 35170;
@@ -39,7 +39,7 @@ fn block(file: i32, run: Run, input: &mut [u8], out: &mut [u8]) -> Read
     ensures { λ r. ⌜ (length (now (input .exit)) ≡ length (now (input .entry))) × (length (now (out .exit)) ≡ length (now (out .entry))) × (r .run .plan ≡ run .plan) × (r .run .period ≡ run .period) × (r .run .frame ≤ mostLines) × (r .more ≡ true → run .frame < r .run .frame) ⌝ }
 {
     let got = io::read_full(file, input);
-    let r = listing::step::lines(run, &input[0..got], out);
+    let r = lines::step::lines(run, &input[0..got], out);
     let next = r.run;
     let printed = r.count;
     io::write_all(STDOUT_FILENO, &out[0..printed]);
@@ -61,7 +61,7 @@ fn block(file: i32, run: Run, input: &mut [u8], out: &mut [u8]) -> Read
 fn follow(file: i32, start: Run)
     requires { ⌜ (accepted (start .plan) ≡ true) × (start .period ≡ periodOf (start .plan)) × (start .frame ≤ mostLines) ⌝ }
 {
-    let size = listing::step::BLOCK * listing::step::line_size(start.plan.sensors);
+    let size = lines::step::BLOCK * lines::step::line_size(start.plan.sensors);
     let mut run = start;
     let mut input = [0u8; INPUT];
     let mut out = [0u8; OUTPUT];

@@ -8,14 +8,15 @@ use Rattle.column.specs.Column.{dropBlanks, decimal, wellFormed, numeralOf, num
 use Rattle.column.specs.Row.{row, numbersFrom, numbersOf}
 use Rattle.plan.specs.Known.{votedIn, readsKnown, knowTask, knowTasks, knowVoted, knowFrame, known, allKnown, periodTo, period}
 use Rattle.plan.specs.Accepted.{headerOk, opOk, taskOk}
-use Rattle.plan_text.specs.Line.{numbersAt, lineAt, isTask}
-use Rattle.plan_text.specs.Written.{written}
-use Rattle.plan_text.specs.Meant.{opOf, taskOf, headerWith, initialWith, countWith, tasksWith, votedWith, actuatorsWith, withLine, planTo, planOf}
-use Rattle.plan_text.specs.Refused.{lengthOk, isHeader, afterCells, taskInOrder, voteInOrder, actuatorInOrder, inOrder, taskZeros, inRange, rulesOf, formOrRules, lineRefusal, firstRefusal, isLast, endRefusal, periodRefusal, linesRefusal, textRefusal}
+use Rattle.text.specs.Line.{numbersAt, lineAt, isTask}
+use Rattle.text.specs.Written.{written}
+use Rattle.text.specs.Meant.{opOf, taskOf, headerWith, initialWith, countWith, tasksWith, votedWith, actuatorsWith, withLine, planTo, planOf}
+use Rattle.text.specs.Refused.{lengthOk, isHeader, afterCells, taskInOrder, voteInOrder, actuatorInOrder, inOrder, taskZeros, inRange, rulesOf, formOrRules, lineRefusal, firstRefusal, isLast, endRefusal, periodRefusal, linesRefusal, textRefusal}
 use Rattle.plan_text.specs.Answers.{unlessRefused, readAnswer}
-use Rattle.node.specs.Task.{opValue, runTask, runTasks}
-use Rattle.node.specs.Majority.{holders, firstShared, majority}
-use Rattle.node.specs.Node.{computed, before, sentCell, messageOf, counterIn, cellIn, orOwn, votedCounter, votedCell, voted}
+use Rattle.task.specs.Task.{opValue, runTask, runTasks}
+use Rattle.ballot.specs.Majority.{holders, firstShared, majority}
+use Rattle.ballot.specs.Majority.{orOwn}
+use Rattle.memory.specs.Node.{computed, before, sentCell, messageOf, counterIn, cellIn, votedCounter, votedCell, voted}
 use Rattle.system.specs.Plane.{mostHeld, plane}
 use Rattle.short_table.specs.ShortTable.{linesK, linesTake, planK, planTake, mailbox, countersVoted, cellsVoted, planeOf, late, ShortTable}
 

@@ -12,12 +12,12 @@ use Rattle.plan.specs.declared.Op.the-variants.{Take, Sum, Limit}
 use Rattle.plan.specs.declared.Plan.{Plan}
 use Rattle.plan.specs.Limits.{mostFrames, mostCells, mostTasks, mostActuators}
 use Rattle.plan.specs.Known.{unusedTask, votePlace, period}
-use Rattle.plan_text.specs.Written.{written}
+use Rattle.text.specs.Written.{written}
 use Rattle.plan_text.specs.Answers.{readAnswer}
-use Rattle.node.specs.declared.Memory.{Memory}
-use Rattle.node.specs.Size.{counterSize}
-use Rattle.node.specs.Task.{opValue}
-use Rattle.node.specs.Node.{computed, messageOf, voted}
+use Rattle.memory.specs.declared.Memory.{Memory}
+use Rattle.memory.specs.Size.{counterSize}
+use Rattle.task.specs.Task.{opValue}
+use Rattle.memory.specs.Node.{computed, messageOf, voted}
 use Rattle.system.specs.Plane.{plane}
 
 -- ---- the plans: the numbers of their lines, and the records that these mean

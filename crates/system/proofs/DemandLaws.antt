@@ -14,9 +14,9 @@ use Rattle.plan.specs.declared.Plan.{Plan}
 use Rattle.plan.specs.Known.{known}
 use Rattle.plan.specs.Accepted.{accepted}
 use Rattle.plan.proofs.AcceptedLaws.{shape-of-accepted}
-use Rattle.node.specs.declared.Memory.{Memory}
-use Rattle.node.specs.Node.{poweredOn}
-use Rattle.node.proofs.NodeLaws.{poweredOn-counter}
+use Rattle.memory.specs.declared.Memory.{Memory}
+use Rattle.memory.specs.Node.{poweredOn}
+use Rattle.memory.proofs.NodeLaws.{poweredOn-counter}
 use Rattle.system.specs.declared.System.{System}
 use Rattle.system.specs.System.{powerOn}
 use Rattle.system.specs.Fault.{bad}

@@ -5,8 +5,8 @@ use Prim.Native.Nat.{ℕ, _≤_}
 use lib.ListN.{length, getD}
 use Rattle.array.proofs.PlacesLaws.{fill-length, fill-out, from-length}
 use Rattle.plan.specs.declared.Plan.{Plan}
-use Rattle.node.specs.declared.Memory.{Memory}
-use Rattle.node.specs.Size.{binSize}
+use Rattle.memory.specs.declared.Memory.{Memory}
+use Rattle.memory.specs.Size.{binSize}
 use Rattle.system.specs.Fault.{faultMessageAt, faultMemory, faultMessage}
 
 module _ (p : Plan) (faults : List ℕ) (i : ℕ) where

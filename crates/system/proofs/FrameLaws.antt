@@ -17,14 +17,14 @@ use Rattle.plan.specs.Accepted.{accepted}
 use Rattle.plan.proofs.AcceptedLaws.{Shape, shape-of-accepted, period-of-accepted}
 use Rattle.plan.proofs.KnownLaws.{known-first, known-next, none-known}
 use Rattle.plan.proofs.PeriodLaws.{allKnown-at, period-reached}
-use Rattle.node.specs.declared.Memory.{Memory}
-use Rattle.node.specs.Size.{binSize}
-use Rattle.node.specs.Node.{computed, before, messageOf, voted, setpoint}
-use Rattle.node.proofs.MajorityLaws.{holders-least}
-use Rattle.node.proofs.TaskLaws.{Agree, Bounded}
-use Rattle.node.proofs.MessageLaws.{message-length}
-use Rattle.node.proofs.NodeLaws.{memory-same, computed-small, computed-next, computed-length, computed-past, computed-bounded}
-use Rattle.node.proofs.VoteLaws.{MostHold, most-of-messages, most-counter, most-agree, most-own, frame-agree, vote-length, vote-past, before-computed}
+use Rattle.memory.specs.declared.Memory.{Memory}
+use Rattle.memory.specs.Size.{binSize}
+use Rattle.memory.specs.Node.{computed, before, messageOf, voted, setpoint}
+use Rattle.ballot.proofs.MajorityLaws.{holders-least}
+use Rattle.task.proofs.TaskLaws.{Agree, Bounded}
+use Rattle.memory.proofs.MessageLaws.{message-length}
+use Rattle.memory.proofs.NodeLaws.{memory-same, computed-small, computed-next, computed-length, computed-past, computed-bounded}
+use Rattle.memory.proofs.VoteLaws.{MostHold, most-of-messages, most-counter, most-agree, most-own, frame-agree, vote-length, vote-past, before-computed}
 use Rattle.system.specs.declared.System.{System}
 use Rattle.system.specs.Fault.{bad}
 use Rattle.system.specs.Plane.{plane}

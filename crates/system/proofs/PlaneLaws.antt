@@ -8,8 +8,8 @@ use native.Mathlib.Nat.{le-refl, not-suc-le-zero}
 use lib.Dec.{eqb, ltb}
 use borrow.Author.Tests.{ltb-true, ltb-false, eqb-true, eqb-false}
 use Rattle.array.proofs.TestLaws.{split}
-use Rattle.node.specs.Majority.{holders}
-use Rattle.node.proofs.MajorityLaws.{holders-some, majority-unique}
+use Rattle.ballot.specs.Majority.{holders}
+use Rattle.ballot.proofs.MajorityLaws.{holders-some, majority-unique}
 use Rattle.system.specs.Plane.{mostHeld, plane}
 
 -- v is put out by the most of n nodes, and `holder` is the lowest of all nodes whose value that many put out

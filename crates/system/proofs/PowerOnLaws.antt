@@ -8,9 +8,9 @@ use Rattle.answer.specs.declared.Answer.the-variants.{Done, InvalidPlan}
 use Rattle.plan.specs.declared.Plan.{Plan}
 use Rattle.plan.specs.Known.{period}
 use Rattle.plan.specs.Accepted.{accepted}
-use Rattle.plan.specs.Answers.{checked}
-use Rattle.node.specs.declared.Memory.{Memory}
-use Rattle.node.specs.Node.{poweredOn}
+use Rattle.recovery.specs.Answers.{checked}
+use Rattle.memory.specs.declared.Memory.{Memory}
+use Rattle.memory.specs.Node.{poweredOn}
 use Rattle.system.specs.declared.System.{System}
 use Rattle.system.specs.declared.Started.{Started}
 use Rattle.system.specs.System.{zeroSystem, powerOn, powerOnAnswer}

@@ -15,11 +15,11 @@ use Rattle.plan.specs.declared.Plan.{Plan}
 use Rattle.plan.specs.Known.{known, period}
 use Rattle.plan.specs.Accepted.{accepted}
 use Rattle.plan.proofs.AcceptedLaws.{Shape, shape-of-accepted}
-use Rattle.node.specs.declared.Memory.{Memory}
-use Rattle.node.specs.Node.{zeroMemory, poweredOn, computed, before, setpoint}
-use Rattle.node.proofs.TaskLaws.{Agree, Bounded}
-use Rattle.node.proofs.NodeLaws.{poweredOn-counter, poweredOn-small, poweredOn-length, poweredOn-bounded, computed-next}
-use Rattle.node.proofs.VoteLaws.{before-next}
+use Rattle.memory.specs.declared.Memory.{Memory}
+use Rattle.memory.specs.Node.{zeroMemory, poweredOn, computed, before, setpoint}
+use Rattle.task.proofs.TaskLaws.{Agree, Bounded}
+use Rattle.memory.proofs.NodeLaws.{poweredOn-counter, poweredOn-small, poweredOn-length, poweredOn-bounded, computed-next}
+use Rattle.memory.proofs.VoteLaws.{before-next}
 use Rattle.system.specs.declared.System.{System}
 use Rattle.system.specs.System.{zeroSystem, powerOn}
 use Rattle.system.specs.Fault.{bad}

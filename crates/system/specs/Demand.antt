@@ -10,8 +10,8 @@ use Rattle.answer.specs.declared.Answer.{Answer}
 use Rattle.plan.specs.declared.Plan.{Plan}
 use Rattle.plan.specs.Known.{period}
 use Rattle.plan.specs.Accepted.{accepted}
-use Rattle.node.specs.declared.Memory.{Memory}
-use Rattle.node.specs.Node.{poweredOn, computed}
+use Rattle.memory.specs.declared.Memory.{Memory}
+use Rattle.memory.specs.Node.{poweredOn, computed}
 use Rattle.system.specs.declared.System.{System}
 use Rattle.system.specs.System.{powerOn}
 use Rattle.system.specs.Fault.{bad}

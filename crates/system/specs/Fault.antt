@@ -8,8 +8,8 @@ use Rattle.array.specs.Index.{fill, from}
 use Rattle.array.specs.Word.{be}
 use Rattle.array.specs.Bit.{bit}
 use Rattle.plan.specs.declared.Plan.{Plan}
-use Rattle.node.specs.declared.Memory.{Memory}
-use Rattle.node.specs.Size.{counterSize, patternSize, cellAt, messageSize, binSize, binAt}
+use Rattle.memory.specs.declared.Memory.{Memory}
+use Rattle.memory.specs.Size.{counterSize, patternSize, cellAt, messageSize, binSize, binAt}
 
 -- "a mask (bit i set: node i is bad in this frame)"
 abbrev pub bad : ℕ → ℕ → Bool

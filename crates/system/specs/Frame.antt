@@ -10,9 +10,9 @@ use Rattle.answer.specs.declared.Answer.the-variants.{Done, InvalidPlan, WrongL
 use Rattle.plan.specs.declared.Plan.{Plan}
 use Rattle.plan.specs.Known.{period}
 use Rattle.plan.specs.Accepted.{accepted}
-use Rattle.node.specs.declared.Memory.{Memory}
+use Rattle.memory.specs.declared.Memory.{Memory}
 use Rattle.node.specs.declared.Outcome.{Outcome}
-use Rattle.node.specs.Node.{zeroMemory, computed, messageOf, voted, setpoint}
+use Rattle.memory.specs.Node.{zeroMemory, computed, messageOf, voted, setpoint}
 use Rattle.system.specs.declared.System.{System}
 use Rattle.system.specs.declared.Framed.{Framed}
 use Rattle.system.specs.declared.Counted.{Counted}

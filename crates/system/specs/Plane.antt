@@ -3,7 +3,7 @@
 use mathlib.Core.Bool.{cond}
 use Prim.Native.Nat.{ℕ, zero, suc}
 use lib.Dec.{ltb}
-use Rattle.node.specs.Majority.{holders}
+use Rattle.ballot.specs.Majority.{holders}
 
 -- the lowest of the first k of n nodes whose value the most of the n put out
 unfoldable pub mostHeld : (ℕ → ℕ) → ℕ → ℕ → ℕ

@@ -7,8 +7,8 @@ use Rattle.plan.specs.declared.Plan.{Plan}
 use Rattle.plan.specs.Limits.{mostNodes}
 use Rattle.plan.specs.Known.{period}
 use Rattle.plan.specs.Accepted.{accepted}
-use Rattle.plan.specs.Answers.{checked}
-use Rattle.node.specs.Node.{zeroMemory, poweredOn}
+use Rattle.recovery.specs.Answers.{checked}
+use Rattle.memory.specs.Node.{zeroMemory, poweredOn}
 use Rattle.system.specs.declared.System.{System}
 use Rattle.system.specs.declared.Started.{Started}
 

@@ -5,7 +5,7 @@ ghost use Rattle.plan.specs.Accepted.{accepted};
 ghost use Rattle.plan.specs.Known.{period as periodOf};
 ghost use Rattle.system.specs.System.{zeroSystem, powerOn, powerOnAnswer};
 use answer::Answer;
-use node::Memory;
+use memory::Memory;
 use plan::Plan;
 
 // What lies past the plan's nodes is neither read nor changed.
@@ -43,7 +43,7 @@ impl System {
     fn zero() -> System
         ensures { λ r. ⌜ r ≡ zeroSystem ⌝ }
     {
-        let memory = node::zero_memory();
+        let memory = memory::zero_memory();
         System {
             memories: [memory; System::NODES],
             good: [0; System::NODES],
@@ -56,7 +56,7 @@ impl System {
         ensures { λ r. ⌜ r ≡ powerOn plan ⌝ }
     {
         let nodes = plan.nodes;
-        let memory = node::step::power_on(plan);
+        let memory = memory::step::power_on(plan);
         let full = period as u16;
         let mut system = System::zero();
         let mut i: usize = 0;
@@ -71,7 +71,7 @@ impl System {
     pub fn power_on(plan: Plan) -> Started
         ensures { λ r. ⌜ r ≡ powerOnAnswer plan ⌝ }
     {
-        let period = plan::accepted_period(plan);
+        let period = recovery::accepted_period(plan);
         if period == 0 {
             let system = System::zero();
             return Started {

@@ -1,6 +1,6 @@
 -- `frame::mask_ok` meets its contract: a mask shifted by the nodes is 0 where it is below 2 ^ nodes.
 use borrow.Author.Needs.{needs}
-use Rattle.exchange.proofs.StepLaws.{mask-fits}
+use Rattle.array.proofs.BitLaws.{mask-fits}
 use Rattle.frame.proofs.mask_ok.Statement.{statement}
 use Rattle.frame.proofs.mask_ok.Tie as tie
 

@@ -1,10 +1,10 @@
 -- `listing::next` meets its contract: an answer for each way out.
 use mathlib.Core.Path.{_∙_}
 use native.Mathlib.Omega.{arith}
-use Rattle.plan.proofs.AnswerLaws.{accepted-period, accepted-of-period, refused-of-period}
+use Rattle.recovery.proofs.AnswerLaws.{accepted-period, accepted-of-period, refused-of-period}
 use Rattle.plan.proofs.AcceptedLaws.{shape-of-accepted}
 use Rattle.frame.proofs.CallLaws.{refused-test, passed-test, counts-are}
-use Rattle.listing.proofs.StepLaws.{front-length}
+use Rattle.lines.proofs.StepLaws.{front-length}
 use Rattle.listing.proofs.CallLaws.{next-plan, next-counts, next-room, next-ended, next-taken}
 use borrow.Author.Needs.{needs}
 use Rattle.listing.proofs.next.Statement.{statement}

@@ -5,8 +5,8 @@ use native.Mathlib.Omega.{arith}
 use lib.ListN.{length, take}
 use borrow.Author.Tests.{not-true, not-false}
 use Rattle.plan.proofs.AcceptedLaws.{shape-of-accepted}
-use Rattle.listing.specs.Line.{runLineSize}
-use Rattle.listing.proofs.StepLaws.{first-line}
+use Rattle.lines.specs.Line.{runLineSize}
+use Rattle.lines.proofs.StepLaws.{first-line}
 use Rattle.listing.proofs.CallLaws.{line-refused, line-in-range, line-done}
 use borrow.Author.Needs.{needs}
 use Rattle.listing.proofs.next_line.Statement.{statement}

@@ -5,7 +5,7 @@ use Rattle.measure.proofs.check_often.Tie as tie
 use Rattle.measure.proofs.check_often.Reads as reads
 use Rattle.measure.proofs.check_often.Lts as lts
 use Rattle.answer.proofs.Answer.number.Reads as number-reads
-use Rattle.plan.proofs.check.Reads as check-reads
+use Rattle.recovery.proofs.check.Reads as check-reads
 
 abbrev Inv-loop : tie.InvT-loop
 Inv-loop times p₀ sum₀ k₀ p sum k = (k ≤ times) × (sum ≤ 1000)
@@ -13,39 +13,30 @@ Inv-loop times p₀ sum₀ k₀ p sum k = (k ≤ times) × (sum ≤ 1000)
 abbrev μ-loop : tie.MeasureT-loop
 μ-loop times p₀ sum₀ k₀ p sum k = times - k
 
--- src/main.rt:35:5
 loop-holds : tie.Need-loop-holds Inv-loop μ-loop
 loop-holds c = search needs
 
--- src/main.rt:36:9
 element-write-p : tie.Need-element-write-p Inv-loop μ-loop
 element-write-p c = search needs
 
--- src/main.rt:37:13
 check-requires : tie.Need-check-requires Inv-loop μ-loop
 check-requires c κs = search needs
 
--- src/main.rt:38:22
 number-requires : tie.Need-number-requires Inv-loop μ-loop
 number-requires c κs = search needs
 
--- src/main.rt:38:16
 add-sum : tie.Need-add-sum Inv-loop μ-loop
 add-sum c = search needs
 
--- src/main.rt:39:9
 add-k : tie.Need-add-k Inv-loop μ-loop
 add-k c = search needs
 
--- src/main.rt:35:5
 loop-less : tie.Need-loop-less Inv-loop μ-loop
 loop-less c = search needs
 
--- src/main.rt:35:5
 loop-again : tie.Need-loop-again Inv-loop μ-loop
 loop-again c = search needs
 
--- src/main.rt:31:1
 returns : tie.Need-returns Inv-loop μ-loop
 returns c = search needs
 

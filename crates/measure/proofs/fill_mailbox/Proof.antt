@@ -4,7 +4,8 @@ use Prim.Native.Nat.{_+_, _-_, _≤_, _<_}
 use native.Mathlib.Omega.{arith}
 use lib.ListN.{length}
 use borrow.Author.Needs.{needs}
-use Rattle.exchange.proofs.MailLaws.{placed-length, part-back, part-length}
+use Rattle.array.proofs.PlacedLaws.{placed-length}
+use Rattle.exchange.proofs.MailLaws.{part-back, part-length}
 use Rattle.measure.proofs.fill_mailbox.Statement.{statement}
 use Rattle.measure.proofs.fill_mailbox.Tie as tie
 
@@ -26,7 +27,7 @@ loop-again c =
     let k = l .at + c .before .before .before .before .before .before .before .before .before .args .size - l .at in
     let fits : l .at + k ≤ length (l .bins) = omega (arith, i .1, i .0, c .before .before .before .before .if2 .left) in
     let e : length t ≡ k = m .kept .1 .1 .0 ∙ part-length (l .bins) (l .at) k k refl fits in
-    (omega (arith, i .0, c .before .before .before .before .if2 .left, c .before .before .before .before .before .loop-test .taken), ap length (part-back (l .bins) t t (l .at) k refl e) ∙ placed-length (l .bins) t (l .at) (omega (arith, e, fits)) ∙ i .1, i .2, i .3)
+    (omega (arith, i .0, c .before .before .before .before .if2 .left, c .before .before .before .before .before .loop-test .taken), ap length (part-back (l .bins) t t (l .at) k refl e) ∙ placed-length (l .bins) (l .at) t (omega (arith, e, fits)) ∙ i .1, i .2, i .3)
 
 pub fill-mailbox-spec : {M : Type 1} → statement M
 fill-mailbox-spec =

@@ -4,9 +4,9 @@ use Prim.Native.Nat.{ℕ, _-_, _*_, _≤_, _<_}
 use native.Mathlib.Omega.{arith}
 use lib.ListN.{length, length-set}
 use borrow.Author.Needs.{needs}
-use Rattle.plan.proofs.AnswerLaws.{accepted-period, accepted-of-period}
+use Rattle.recovery.proofs.AnswerLaws.{accepted-period, accepted-of-period}
 use Rattle.plan.proofs.AcceptedLaws.{shape-of-accepted}
-use Rattle.exchange.proofs.StepLaws.{faults-small}
+use Rattle.exchange.proofs.SizeLaws.{faults-small}
 use Rattle.measure.proofs.frame_often.Statement.{statement}
 use Rattle.measure.proofs.frame_often.Tie as tie
 

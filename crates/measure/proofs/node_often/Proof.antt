@@ -4,10 +4,10 @@ use Prim.Native.Nat.{ℕ, _-_, _*_, _≤_, _<_}
 use native.Mathlib.Omega.{arith}
 use lib.ListN.{length, length-set}
 use borrow.Author.Needs.{needs}
-use Rattle.plan.proofs.AnswerLaws.{accepted-of-period}
+use Rattle.recovery.proofs.AnswerLaws.{accepted-of-period}
 use Rattle.plan.proofs.AcceptedLaws.{shape-of-accepted}
-use Rattle.node.specs.Size.{cellAt}
-use Rattle.frame.proofs.FrameLaws.{box-small}
+use Rattle.memory.specs.Size.{cellAt}
+use Rattle.phases.proofs.FrameLaws.{box-small}
 use Rattle.measure.proofs.node_often.Statement.{statement}
 use Rattle.measure.proofs.node_often.Tie as tie
 

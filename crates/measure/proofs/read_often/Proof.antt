@@ -17,53 +17,41 @@ Inv-loop text₀ times sum₀ k₀ text sum k = (k ≤ times) × (sum ≤ 1000) 
 abbrev μ-loop : tie.MeasureT-loop
 μ-loop text₀ times sum₀ k₀ text sum k = times - k
 
--- src/main.rt:19:5
 loop-holds : tie.Need-loop-holds Inv-loop μ-loop
 loop-holds c = search needs
 
--- src/main.rt:21:29
 cast-text : tie.Need-cast-text Inv-loop μ-loop
 cast-text c = search needs
 
--- src/main.rt:21:24
 add-text : tie.Need-add-text Inv-loop μ-loop
 add-text c = search needs
 
--- src/main.rt:21:13
 slice-write-text : tie.Need-slice-write-text Inv-loop μ-loop
 slice-write-text c = search needs
 
--- src/main.rt:23:13
 read-requires : tie.Need-read-requires Inv-loop μ-loop
 read-requires c κs = search needs
 
--- src/main.rt:25:22
 number-requires : tie.Need-number-requires Inv-loop μ-loop
 number-requires c κs = search needs
 
--- src/main.rt:25:16
 add-sum : tie.Need-add-sum Inv-loop μ-loop
 add-sum c = search needs
 
--- src/main.rt:26:9
 add-k : tie.Need-add-k Inv-loop μ-loop
 add-k c = search needs
 
--- src/main.rt:19:5
 loop-less : tie.Need-loop-less Inv-loop μ-loop
 loop-less c = search needs
 
--- src/main.rt:19:5
 loop-again : tie.Need-loop-again Inv-loop μ-loop
 loop-again c =
     let l = c .before .before .before .before .before in
     (search needs, search needs, ⊎-elim (λ w. ap length (w .1) ∙ length-set (l .loop .text) _ _ ∙ l .loop .inv .2) (λ w. ap length (w .1) ∙ l .loop .inv .2) (c .before .before .before .if1 .came))
 
--- src/main.rt:16:1
 same-length : tie.Need-same-length Inv-loop μ-loop
 same-length c = search needs
 
--- src/main.rt:16:1
 returns : tie.Need-returns Inv-loop μ-loop
 returns c = search needs
 

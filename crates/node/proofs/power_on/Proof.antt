@@ -1,7 +1,7 @@
 -- `node::power_on` meets its contract: an answer for each way out.
 use borrow.Author.Needs.{needs}
-use Rattle.plan.specs.Answers.{checked}
-use Rattle.plan.proofs.AnswerLaws.{accepted-of-period, refused-of-period}
+use Rattle.recovery.specs.Answers.{checked}
+use Rattle.recovery.proofs.AnswerLaws.{accepted-of-period, refused-of-period}
 use Rattle.node.specs.Answers.{powerOnAnswer}
 use Rattle.node.proofs.power_on.Statement.{statement}
 use Rattle.node.proofs.power_on.Tie as tie

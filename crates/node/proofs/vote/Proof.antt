@@ -5,7 +5,7 @@ use native.Mathlib.Omega.{arith}
 use native.Mathlib.Nat.{mul-le-mul-right}
 use borrow.Author.Needs.{needs}
 use Rattle.plan.proofs.AcceptedLaws.{shape-of-accepted}
-use Rattle.plan.proofs.AnswerLaws.{accepted-of-period, refused-of-period}
+use Rattle.recovery.proofs.AnswerLaws.{accepted-of-period, refused-of-period}
 use Rattle.node.specs.Answers.{voteAnswer}
 use Rattle.node.proofs.CallLaws.{outcome, plan-refused, length-refused, call-done}
 use Rattle.node.proofs.vote.Statement.{statement}

@@ -2,7 +2,7 @@
 use native.Mathlib.Omega.{arith}
 use lib.ListN.{length}
 use borrow.Author.Needs.{needs}
-use Rattle.plan_text.proofs.LineLaws.{some-line}
+use Rattle.text.proofs.LineLaws.{some-line}
 use Rattle.plan_text.proofs.ReadLaws.{fails, holds, whole-line, no-line, answer-length, answer-first, answer-header}
 use Rattle.plan_text.proofs.read.Statement.{statement}
 use Rattle.plan_text.proofs.read.Tie as tie

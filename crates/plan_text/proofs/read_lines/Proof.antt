@@ -8,11 +8,11 @@ use native.Mathlib.Omega.{arith}
 use lib.ListN.{set}
 use lib.Seq.{set-out}
 use borrow.Author.Needs.{needs}
-use Rattle.plan_text.specs.Line.{numbersAt}
-use Rattle.plan_text.specs.Meant.{withLine}
-use Rattle.plan_text.specs.Refused.{inOrder, inRange}
-use Rattle.plan_text.specs.Reader.{numbersIn}
-use Rattle.plan_text.proofs.RefusedLaws.{cell-index, vote-index, actuator-index}
+use Rattle.text.specs.Line.{numbersAt}
+use Rattle.text.specs.Meant.{withLine}
+use Rattle.text.specs.Refused.{inOrder, inRange}
+use Rattle.plan_line.specs.Reader.{numbersIn}
+use Rattle.text.proofs.RefusedLaws.{cell-index, vote-index, actuator-index}
 use Rattle.plan_text.proofs.StoreLaws.{later-kind, header-stored, task-stored, other-stored, counted}
 use Rattle.plan_text.proofs.ReadLaws.{holds, whole-line, no-line, ReadTo, read-start, read-tasks, read-count, read-more, read-wellFormed, answer-malformed, answer-order, answer-range, answer-missing, answer-unrecoverable, answer-done}
 use Rattle.plan_text.proofs.read_lines.Statement.{statement}

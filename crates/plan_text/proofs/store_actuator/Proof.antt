@@ -1,7 +1,7 @@
 -- `plan_text::store_actuator` meets its contract: an actuator's cell is stored, and of another line nothing.
 use native.Mathlib.Omega.{arith}
 use borrow.Author.Tests.{eq-eqb, ne-eqb}
-use Rattle.plan_text.specs.Meant.{actuatorsWith}
+use Rattle.text.specs.Meant.{actuatorsWith}
 use Rattle.plan_text.proofs.store_actuator.Statement.{statement}
 use Rattle.plan_text.proofs.store_actuator.Tie as tie
 

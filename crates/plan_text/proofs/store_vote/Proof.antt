@@ -1,7 +1,7 @@
 -- `plan_text::store_vote` meets its contract: a vote is stored at its place in the table, and of another line nothing.
 use native.Mathlib.Omega.{arith}
 use borrow.Author.Tests.{eq-eqb, ne-eqb}
-use Rattle.plan_text.specs.Meant.{votedWith}
+use Rattle.text.specs.Meant.{votedWith}
 use Rattle.plan_text.proofs.store_vote.Statement.{statement}
 use Rattle.plan_text.proofs.store_vote.Tie as tie
 

@@ -4,7 +4,7 @@ use mathlib.Core.List.{List}
 use Prim.Native.Nat.{ℕ, _-_, _<_}
 use native.Mathlib.Omega.{arith}
 use Rattle.array.proofs.TestLaws.{clash}
-use Rattle.listing.proofs.RunLaws.{lines-told}
+use Rattle.lines.proofs.RunLaws.{lines-told}
 use lib.ListN.{length, take}
 use lib.Seq.{length-take-le}
 use borrow.Author.Needs.{needs}
@@ -15,35 +15,18 @@ use Rattle.run.proofs.block.Tie as tie
 whole-read : (l : List ℕ) (n : ℕ) → n ≡ length l → 0 < length l → 0 < length (take (n - 0) l)
 whole-read l n e f = let z : n - 0 ≡ n = omega (arith, e) in rw (z, length-take-le n l (omega (arith, e))) (omega (arith, e))
 
--- src/main.rt:41:9
--- src/main.rt:42:39
--- src/main.rt:42:39
--- src/main.rt:42:39
--- src/main.rt:42:9
--- src/main.rt:45:34
--- src/main.rt:45:34
--- src/main.rt:45:34
 part-write-all-end : tie.Need-part-write-all-end
 part-write-all-end c =
     let a = c .before .before .before .before .before .before .before .before .before .before .before .before .before .before .args in
     let t = lines-told (a .run) _ (a .out .now) _ (c .before .before .before .before .lines .result) (search needs) (c .before .before .before .before .before .before .before .before .before .before .before .before .before .before .pre .5) (c .before .before .before .before .before .before .before .before .before .before .before .before .before .before .pre .2) (c .before .before .before .before .lines .ensures .0) (c .before .before .before .before .lines .ensures .1) in
     t .count-fits
 
--- src/main.rt:45:5
--- src/main.rt:47:8
--- src/main.rt:48:9
--- src/main.rt:49:9
--- src/main.rt:49:9
--- src/main.rt:49:9
 returns : tie.Need-returns
 returns c =
     let a = c .before .before .before .before .before .before .before .before .before .before .before .before .before .before .before .before .before .before .before .args in
     let t = lines-told (a .run) _ (a .out .now) _ (c .before .before .before .before .before .before .before .before .before .lines .result) (search needs) (c .before .before .before .before .before .before .before .before .before .before .before .before .before .before .before .before .before .before .before .pre .5) (c .before .before .before .before .before .before .before .before .before .before .before .before .before .before .before .before .before .before .before .pre .2) (c .before .before .before .before .before .before .before .before .before .lines .ensures .0) (c .before .before .before .before .before .before .before .before .before .lines .ensures .1) in
     (search needs, t .same-length, t .same-plan, t .same-period, t .in-time, λ f. absurd (clash f refl))
 
--- src/main.rt:37:1
--- src/main.rt:37:1
--- src/main.rt:37:1
 returns-2 : tie.Need-returns-2
 returns-2 c =
     let a = c .before .before .before .before .before .before .before .before .before .before .before .before .before .before .before .before .before .before .args in

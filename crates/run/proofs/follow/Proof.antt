@@ -10,8 +10,8 @@ use Rattle.plan.specs.declared.Plan.{Plan}
 use Rattle.plan.specs.Known.{period}
 use Rattle.plan.specs.Accepted.{accepted}
 use Rattle.plan.proofs.AcceptedLaws.{shape-of-accepted}
-use Rattle.listing.specs.Listing.{mostLines}
-use Rattle.listing.proofs.StepLaws.{front-length}
+use Rattle.lines.specs.Listing.{mostLines}
+use Rattle.lines.proofs.StepLaws.{front-length}
 use Rattle.run.proofs.follow.Statement.{statement}
 use Rattle.run.proofs.follow.Tie as tie
 
@@ -22,45 +22,35 @@ Inv-loop file size run₀ input₀ out₀ run input out =
 abbrev μ-loop : tie.MeasureT-loop
 μ-loop file size run₀ input₀ out₀ run input out = mostLines - run .frame
 
--- src/main.rt:64:39
 line-size-requires : tie.Need-line-size-requires Inv-loop μ-loop
 line-size-requires c κs = shape-of-accepted _ (c .pre .0) .sensors-le
 
--- src/main.rt:64:16
 mul-size : tie.Need-mul-size Inv-loop μ-loop
 mul-size c = omega (arith, c .line-size .ensures, shape-of-accepted (c .before .args .start .plan) (c .before .pre .0) .sensors-le)
 
--- src/main.rt:68:5
 loop-holds : tie.Need-loop-holds Inv-loop μ-loop
 loop-holds c =
     let z : ℕ = 0 in
     (c .before .pre .0, c .before .pre .1, c .before .pre .2, refl, length-replicate 42112 z, length-replicate 22656 z)
 
--- src/main.rt:69:37
 sub-block : tie.Need-sub-block Inv-loop μ-loop
 sub-block c = omega arith
 
--- src/main.rt:69:37
 part-input-start : tie.Need-part-input-start Inv-loop μ-loop
 part-input-start c = omega arith
 
--- src/main.rt:69:37
 part-input-end : tie.Need-part-input-end Inv-loop μ-loop
 part-input-end c = omega (arith, c .before .line-size .ensures, shape-of-accepted (c .before .before .args .start .plan) (c .before .before .pre .0) .sensors-le, c .loop .inv .4)
 
--- src/main.rt:69:58
 sub-block-2 : tie.Need-sub-block-2 Inv-loop μ-loop
 sub-block-2 c = omega arith
 
--- src/main.rt:69:58
 part-out-start : tie.Need-part-out-start Inv-loop μ-loop
 part-out-start c = omega arith
 
--- src/main.rt:69:58
 part-out-end : tie.Need-part-out-end Inv-loop μ-loop
 part-out-end c = omega (arith, c .before .loop .inv .5)
 
--- src/main.rt:69:13
 block-requires : tie.Need-block-requires Inv-loop μ-loop
 block-requires c κs =
     let l = c .before .before .loop in
@@ -72,15 +62,12 @@ block-requires c κs =
     let m : length (take 22656 (l .out)) ≡ 22656 = length-take-le 22656 (l .out) (omega (arith, l .inv .5)) in
     (l .inv .0, l .inv .1, l .inv .2, omega (arith, n, size .ensures), omega (arith, n, size .ensures, same), omega (arith, m, p .actuators-le))
 
--- src/main.rt:71:13
 returns : tie.Need-returns Inv-loop μ-loop
 returns c = tt
 
--- src/main.rt:68:5
 loop-less : tie.Need-loop-less Inv-loop μ-loop
 loop-less c = let b = c .before .before .before .before .before .block in omega (arith, b .ensures .4, b .ensures .5 (not-false _ (c .before .if1 .left)))
 
--- src/main.rt:68:5
 loop-again : tie.Need-loop-again Inv-loop μ-loop
 loop-again c =
     let l = c .before .before .before .before .before .before .before .before .loop in

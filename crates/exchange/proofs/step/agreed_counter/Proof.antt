@@ -1,7 +1,7 @@
 -- `exchange::step::agreed_counter` meets its contract: a counter below `frames` is one that more than half sent as good ones.
 use mathlib.Core.Path.{ap}
 use borrow.Author.Needs.{needs}
-use Rattle.node.specs.Answers.{valueOf}
+use Rattle.ballot.specs.Majority.{valueOf}
 use Rattle.exchange.proofs.step.agreed_counter.Statement.{statement}
 use Rattle.exchange.proofs.step.agreed_counter.Tie as tie
 

@@ -5,8 +5,8 @@ use native.Mathlib.Omega.{arith}
 use lib.ListN.{length}
 use borrow.Author.Needs.{needs}
 use Rattle.array.specs.Index.{from}
-use Rattle.node.specs.Size.{counterSize, patternSize}
-use Rattle.exchange.specs.Mail.{placed}
+use Rattle.memory.specs.Size.{counterSize, patternSize}
+use Rattle.array.specs.Place.{placed}
 use Rattle.exchange.proofs.MailLaws.{copied-none, copied-more, copied-all}
 use Rattle.exchange.proofs.step.copy_bin.Statement.{statement}
 use Rattle.exchange.proofs.step.copy_bin.Tie as tie

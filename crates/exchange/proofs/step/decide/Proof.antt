@@ -9,9 +9,9 @@ use borrow.Author.Needs.{needs}
 use Rattle.array.specs.Word.{be}
 use Rattle.array.proofs.TestLaws.{clash}
 use Rattle.plan.specs.Limits.{mostFrames, mostCells}
-use Rattle.node.specs.Size.{patternSize, cellAt}
-use Rattle.node.specs.Answers.{valueOf}
-use Rattle.node.proofs.StepLaws.{lent, bins-fit}
+use Rattle.memory.specs.Size.{patternSize, cellAt}
+use Rattle.ballot.specs.Majority.{valueOf}
+use Rattle.memory.proofs.StepLaws.{lent, bins-fit}
 use Rattle.exchange.specs.Mail.{goodHolders}
 use Rattle.exchange.proofs.GoodLaws.{Decided, decided-none, decided-voted, decided-kept}
 use Rattle.exchange.proofs.step.decide.Statement.{statement}

@@ -6,8 +6,8 @@ use borrow.Author.Needs.{needs}
 use Rattle.array.proofs.PlacesLaws.{fill-none}
 use Rattle.array.specs.Index.{fill}
 use Rattle.array.specs.Word.{be}
-use Rattle.node.specs.Size.{patternSize, cellAt}
-use Rattle.exchange.proofs.StepLaws.{stored-next, stored-all}
+use Rattle.memory.specs.Size.{patternSize, cellAt}
+use Rattle.array.proofs.LoopLaws.{stored-next, stored-all}
 use Rattle.exchange.proofs.step.fault_memory.Statement.{statement}
 use Rattle.exchange.proofs.step.fault_memory.Tie as tie
 

@@ -7,8 +7,8 @@ use lib.ListN.{length, replicate, length-set}
 use borrow.Author.Needs.{needs}
 use Rattle.array.specs.Word.{be}
 use Rattle.plan.specs.Limits.{mostNodes}
-use Rattle.node.specs.Size.{counterSize}
-use Rattle.node.proofs.StepLaws.{bin-ends}
+use Rattle.memory.specs.Size.{counterSize}
+use Rattle.memory.proofs.StepLaws.{bin-ends}
 use Rattle.exchange.proofs.GoodLaws.{Packed, packed-none, packed-good, packed-bad, packed-majority}
 use Rattle.exchange.proofs.step.good_counter.Statement.{statement}
 use Rattle.exchange.proofs.step.good_counter.Tie as tie

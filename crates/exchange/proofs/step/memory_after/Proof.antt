@@ -3,8 +3,8 @@ use mathlib.Core.Path.{refl, sym, ap, _∙_}
 use Prim.Native.Nat.{ℕ, _*_}
 use native.Mathlib.Omega.{arith}
 use borrow.Author.Needs.{needs}
-use Rattle.node.specs.Node.{voted}
-use Rattle.node.specs.Size.{cellAt}
+use Rattle.memory.specs.Node.{voted}
+use Rattle.memory.specs.Size.{cellAt}
 use Rattle.exchange.specs.Mail.{after}
 use Rattle.exchange.proofs.MailLaws.{memory-ends, faults-few, fault-is, block-is}
 use Rattle.exchange.proofs.step.memory_after.Statement.{statement}

@@ -8,9 +8,9 @@ use borrow.Author.Needs.{needs}
 use Rattle.array.specs.Index.{fill}
 use Rattle.array.proofs.PlacesLaws.{fill-none}
 use Rattle.plan.specs.Limits.{mostFrames, mostCells}
-use Rattle.node.specs.declared.Memory.{Memory}
+use Rattle.memory.specs.declared.Memory.{Memory}
 use Rattle.exchange.specs.Mail.{settled}
-use Rattle.exchange.proofs.StepLaws.{stored-all}
+use Rattle.array.proofs.LoopLaws.{stored-all}
 use Rattle.exchange.proofs.GoodLaws.{settledCell, settled-voted, settled-kept}
 use Rattle.exchange.proofs.step.settle.Statement.{statement}
 use Rattle.exchange.proofs.step.settle.Tie as tie

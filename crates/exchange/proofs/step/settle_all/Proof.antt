@@ -10,13 +10,13 @@ use Rattle.array.specs.Index.{fill}
 use Rattle.array.specs.Bit.{bit}
 use Rattle.array.proofs.PlacesLaws.{fill-none, fill-same}
 use Rattle.plan.specs.Limits.{mostNodes}
-use Rattle.node.specs.declared.Memory.{Memory}
-use Rattle.node.specs.Size.{cellAt}
-use Rattle.node.specs.Node.{zeroMemory}
-use Rattle.node.proofs.StepLaws.{lent}
+use Rattle.memory.specs.declared.Memory.{Memory}
+use Rattle.memory.specs.Size.{cellAt}
+use Rattle.memory.specs.Node.{zeroMemory}
+use Rattle.memory.proofs.StepLaws.{lent}
 use Rattle.system.specs.Fault.{faultMemory}
 use Rattle.exchange.specs.Mail.{settled}
-use Rattle.exchange.proofs.StepLaws.{stored-next, stored-all, stored-still, any-default}
+use Rattle.array.proofs.LoopLaws.{any-default, stored-next, stored-all, stored-still}
 use Rattle.exchange.proofs.MailLaws.{memory-ends, faults-few}
 use Rattle.exchange.proofs.GoodLaws.{settle-same, fault-lent}
 use Rattle.exchange.proofs.step.settle_all.Statement.{statement}

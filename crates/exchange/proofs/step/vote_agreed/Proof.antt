@@ -5,8 +5,8 @@ use lib.ListN.{getD}
 use borrow.Author.Tests.{not-false}
 use borrow.Author.Needs.{needs}
 use Rattle.array.proofs.PlacesLaws.{fill-same}
-use Rattle.node.specs.Node.{zeroMemory}
-use Rattle.node.proofs.StepLaws.{lent}
+use Rattle.memory.specs.Node.{zeroMemory}
+use Rattle.memory.proofs.StepLaws.{lent}
 use Rattle.exchange.proofs.MailLaws.{all-lent}
 use Rattle.exchange.proofs.GoodLaws.{after-settled}
 use Rattle.exchange.proofs.step.vote_agreed.Statement.{statement}

@@ -5,8 +5,8 @@ use Prim.Native.Nat.{ℕ, _*_, _<_}
 use native.Mathlib.Omega.{arith}
 use borrow.Author.Needs.{needs}
 use Rattle.array.specs.Word.{be}
-use Rattle.node.specs.Size.{counterSize}
-use Rattle.node.proofs.StepLaws.{lent, bins-fit}
+use Rattle.memory.specs.Size.{counterSize}
+use Rattle.memory.proofs.StepLaws.{lent, bins-fit}
 use Rattle.exchange.specs.Mail.{goodHolders}
 use Rattle.exchange.proofs.step.vote_all.Statement.{statement}
 use Rattle.exchange.proofs.step.vote_all.Tie as tie

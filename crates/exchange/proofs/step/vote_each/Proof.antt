@@ -10,13 +10,13 @@ use Rattle.array.specs.Index.{fill, from}
 use Rattle.array.specs.Bit.{bit}
 use Rattle.array.proofs.PlacesLaws.{fill-none}
 use Rattle.plan.specs.Limits.{mostNodes}
-use Rattle.node.specs.declared.Memory.{Memory}
-use Rattle.node.specs.Size.{cellAt}
-use Rattle.node.specs.Node.{zeroMemory}
-use Rattle.node.proofs.StepLaws.{lent}
+use Rattle.memory.specs.declared.Memory.{Memory}
+use Rattle.memory.specs.Size.{cellAt}
+use Rattle.memory.specs.Node.{zeroMemory}
+use Rattle.memory.proofs.StepLaws.{lent}
 use Rattle.exchange.specs.Mail.{after}
 use Rattle.exchange.proofs.MailLaws.{after-same, all-lent, patched-kept}
-use Rattle.exchange.proofs.StepLaws.{stored-next, stored-all, stored-still, any-default}
+use Rattle.array.proofs.LoopLaws.{any-default, stored-next, stored-all, stored-still}
 use Rattle.exchange.proofs.step.vote_each.Statement.{statement}
 use Rattle.exchange.proofs.step.vote_each.Tie as tie
 

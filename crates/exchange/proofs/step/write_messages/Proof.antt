@@ -7,10 +7,11 @@ use lib.ListN.{length, getD}
 use borrow.Author.Needs.{needs}
 use Rattle.plan.specs.Limits.{mostNodes}
 use Rattle.array.proofs.PlacesLaws.{joined-same}
-use Rattle.node.proofs.StepLaws.{lent, message-lent}
-use Rattle.node.proofs.MessageLaws.{message-length}
-use Rattle.node.specs.Node.{zeroMemory, messageOf}
-use Rattle.exchange.proofs.StepLaws.{any-default, bin-small, part-ends}
+use Rattle.memory.proofs.StepLaws.{lent, message-lent}
+use Rattle.memory.proofs.MessageLaws.{message-length}
+use Rattle.memory.specs.Node.{zeroMemory, messageOf}
+use Rattle.array.proofs.LoopLaws.{any-default}
+use Rattle.exchange.proofs.SizeLaws.{bin-small, part-ends}
 use Rattle.exchange.proofs.MailLaws.{part-back, part-length, Patching, patching-none, patching-written, patching-all}
 use Rattle.exchange.proofs.step.write_messages.Statement.{statement}
 use Rattle.exchange.proofs.step.write_messages.Tie as tie

@@ -1,7 +1,7 @@
 -- `rows::step::agreed` meets its contract.
 use mathlib.Core.Path.{ap}
 use borrow.Author.Needs.{needs}
-use Rattle.node.specs.Answers.{valueOf}
+use Rattle.ballot.specs.Majority.{valueOf}
 use Rattle.rows.proofs.VoteLaws.{agreed-nothing, agreed-below, agreed-above}
 use Rattle.rows.proofs.step.agreed.Statement.{statement}
 use Rattle.rows.proofs.step.agreed.Tie as tie

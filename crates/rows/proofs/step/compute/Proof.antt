@@ -10,10 +10,10 @@ use borrow.Author.Needs.{needs}
 use Rattle.plan.specs.Known.{taskAt}
 use Rattle.plan.specs.Limits.{mostFrames, mostCells, mostTasks}
 use Rattle.plan.proofs.AcceptedLaws.{shape-of-accepted}
-use Rattle.node.specs.Task.{opValue, runTasks}
-use Rattle.node.specs.Node.{computed}
-use Rattle.node.proofs.StepLaws.{tasks-none, tasks-hit, tasks-miss, tasks-others, tasks-later, tasks-end}
-use Rattle.exchange.proofs.StepLaws.{Skips, skips-none, skips-again, skips-few, skips-earlier}
+use Rattle.task.specs.Task.{opValue, runTasks}
+use Rattle.memory.specs.Node.{computed}
+use Rattle.memory.proofs.StepLaws.{tasks-none, tasks-hit, tasks-miss, tasks-others, tasks-later, tasks-end}
+use Rattle.phases.proofs.SkipLaws.{Skips, skips-none, skips-again, skips-few, skips-earlier}
 use Rattle.exchange.proofs.MailLaws.{part-length}
 use Rattle.rows.specs.Rows.{rowCount, wordCount, rowOf, Through}
 use Rattle.rows.proofs.RowLaws.{lent-length, lent-other, through-none, through-next, through-all, row-changed, computed-stored}

@@ -8,7 +8,8 @@ use borrow.Author.Needs.{needs}
 use Rattle.array.specs.Index.{fill}
 use Rattle.array.specs.Bit.{bit}
 use Rattle.array.proofs.PlacesLaws.{fill-none}
-use Rattle.exchange.proofs.StepLaws.{stored-all, count-next}
+use Rattle.array.proofs.LoopLaws.{stored-all}
+use Rattle.counts.proofs.CountLaws.{count-next}
 use Rattle.rows.proofs.step.counts.Statement.{statement}
 use Rattle.rows.proofs.step.counts.Tie as tie
 

@@ -5,7 +5,7 @@ use native.Mathlib.Omega.{arith}
 use borrow.Author.Needs.{needs}
 use Rattle.array.specs.Index.{fill}
 use Rattle.array.proofs.PlacesLaws.{fill-none}
-use Rattle.exchange.proofs.StepLaws.{stored-next, stored-all}
+use Rattle.array.proofs.LoopLaws.{stored-next, stored-all}
 use Rattle.rows.specs.Rows.{heardWord}
 use Rattle.rows.proofs.step.heard.Statement.{statement}
 use Rattle.rows.proofs.step.heard.Tie as tie

@@ -7,7 +7,7 @@ use borrow.Author.Needs.{needs}
 use Rattle.array.specs.Index.{fill}
 use Rattle.array.proofs.PlacesLaws.{fill-none}
 use Rattle.plan.specs.Limits.{mostNodes}
-use Rattle.exchange.proofs.StepLaws.{stored-next, stored-all}
+use Rattle.array.proofs.LoopLaws.{stored-next, stored-all}
 use Rattle.rows.specs.Rows.{memoryIn}
 use Rattle.rows.proofs.RowLaws.{packed-is}
 use Rattle.rows.proofs.step.pack_system.Statement.{statement}

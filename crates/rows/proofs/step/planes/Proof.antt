@@ -7,7 +7,8 @@ use borrow.Author.Needs.{needs}
 use Rattle.array.specs.Index.{fill}
 use Rattle.array.proofs.PlacesLaws.{fill-none}
 use Rattle.system.specs.Plane.{plane}
-use Rattle.exchange.proofs.StepLaws.{stored-next, stored-all, plane-same}
+use Rattle.array.proofs.LoopLaws.{stored-next, stored-all}
+use Rattle.outputs.proofs.OutputLaws.{plane-same}
 use Rattle.rows.specs.Rows.{rowOf}
 use Rattle.rows.proofs.RowLaws.{column-word}
 use Rattle.rows.proofs.step.planes.Statement.{statement}

@@ -5,7 +5,7 @@ use native.Mathlib.Omega.{arith}
 use lib.ListN.{length}
 use borrow.Author.Needs.{needs}
 use Rattle.plan.specs.Limits.{mostCells}
-use Rattle.exchange.proofs.StepLaws.{length-mapped}
+use Rattle.array.proofs.LoopLaws.{length-mapped}
 use Rattle.rows.proofs.RowLaws.{stored-memory}
 use Rattle.rows.proofs.step.put_memory.Statement.{statement}
 use Rattle.rows.proofs.step.put_memory.Tie as tie

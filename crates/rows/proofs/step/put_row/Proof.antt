@@ -7,7 +7,7 @@ use borrow.Author.Needs.{needs}
 use Rattle.array.specs.Index.{fill}
 use Rattle.array.proofs.PlacesLaws.{fill-none, fill-length}
 use Rattle.plan.specs.Limits.{mostCells}
-use Rattle.exchange.proofs.StepLaws.{stored-next, stored-all}
+use Rattle.array.proofs.LoopLaws.{stored-next, stored-all}
 use Rattle.rows.proofs.RowLaws.{fill-copied}
 use Rattle.rows.proofs.step.put_row.Statement.{statement}
 use Rattle.rows.proofs.step.put_row.Tie as tie

@@ -7,7 +7,7 @@ use borrow.Author.Needs.{needs}
 use Rattle.array.specs.Index.{fill}
 use Rattle.array.proofs.PlacesLaws.{fill-none}
 use Rattle.plan.specs.Limits.{mostCells}
-use Rattle.exchange.proofs.StepLaws.{stored-next, stored-all}
+use Rattle.array.proofs.LoopLaws.{stored-next, stored-all}
 use Rattle.rows.proofs.RowLaws.{row-copied}
 use Rattle.rows.proofs.step.row.Statement.{statement}
 use Rattle.rows.proofs.step.row.Tie as tie

@@ -6,7 +6,7 @@ use lib.ListN.{length}
 use borrow.Author.Needs.{needs}
 use Rattle.array.specs.Index.{fill}
 use Rattle.array.proofs.PlacesLaws.{fill-none, fill-length}
-use Rattle.exchange.proofs.StepLaws.{stored-next, stored-all}
+use Rattle.array.proofs.LoopLaws.{stored-next, stored-all}
 use Rattle.rows.proofs.step.spread.Statement.{statement}
 use Rattle.rows.proofs.step.spread.Tie as tie
 

@@ -2,7 +2,7 @@
 use mathlib.Core.Path.{_∙_}
 use mathlib.Core.Logic.{⊎-elim}
 use borrow.Author.Needs.{needs}
-use Rattle.exchange.proofs.StepLaws.{same}
+use Rattle.counts.proofs.CountLaws.{same}
 use Rattle.rows.proofs.VoteLaws.{Joined, joined-settled, joined-kept, before-is, before-small, rows-voted}
 use Rattle.rows.proofs.step.vote.Statement.{statement}
 use Rattle.rows.proofs.step.vote.Tie as tie

@@ -1,7 +1,7 @@
 -- `rows::step::vote_cell` meets its contract: the column is left, or its value handed out.
 use mathlib.Core.Path.{ap}
 use borrow.Author.Needs.{needs}
-use Rattle.node.specs.Answers.{valueOf}
+use Rattle.ballot.specs.Majority.{valueOf}
 use Rattle.rows.proofs.VoteLaws.{voting-nothing, voting-handed}
 use Rattle.rows.proofs.step.vote_cell.Statement.{statement}
 use Rattle.rows.proofs.step.vote_cell.Tie as tie

@@ -11,7 +11,7 @@ use Rattle.array.specs.Index.{howMany}
 use Rattle.array.specs.Bit.{bit}
 use Rattle.array.proofs.IndexLaws.{howMany-none}
 use Rattle.plan.specs.Limits.{mostNodes}
-use Rattle.exchange.proofs.StepLaws.{counted-hit, counted-miss, counted-all}
+use Rattle.array.proofs.LoopLaws.{counted-hit, counted-miss, counted-all}
 use Rattle.rows.proofs.RowLaws.{works-if}
 use Rattle.rows.proofs.step.working.Statement.{statement}
 use Rattle.rows.proofs.step.working.Tie as tie

@@ -9,8 +9,8 @@ use Rattle.array.specs.Index.{fill}
 use Rattle.array.proofs.PlacesLaws.{fill-none, fill-more}
 use Rattle.plan.proofs.AcceptedLaws.{Shape, shape-of-accepted}
 use Rattle.plan.proofs.PeriodLaws.{period-bound}
-use Rattle.plan.proofs.WalkedLaws.{bound-small}
-use Rattle.node.specs.declared.Memory.{Memory}
+use Rattle.recovery.proofs.WalkedLaws.{bound-small}
+use Rattle.memory.specs.declared.Memory.{Memory}
 use Rattle.system.specs.declared.System.{System}
 use Rattle.system.specs.System.{zeroSystem, powerOn}
 use Rattle.system.proofs.System.started.Statement.{statement}

@@ -1,0 +1,55 @@
+-- Laws of a part written into a buffer.
+use mathlib.Core.Path.{_≡_, sym, ap, _∙_, subst}
+use mathlib.Core.List.{List, [], _++_, append-assoc}
+use Prim.Native.Nat.{ℕ, _+_, _≤_, _<_}
+use native.Mathlib.Omega.{arith}
+use native.Mathlib.Nat.{add-zero}
+use lib.ListN.{length, getD, take, drop, length-append, length-take, length-drop, take-append-drop, List·getD-append}
+use lib.Seq.{getD-append-add, getD-take, getD-drop, length-take-le, take-at, drop-at, drop-drop}
+use Rattle.array.specs.Place.{placed}
+
+module _ (s : List ℕ) (at : ℕ) where
+  pub placed-none : s ≡ placed s at []
+  placed-none = sym (rw (add-zero at) (take-append-drop at s))
+
+  module _ (t : List ℕ) (fits : at + length t ≤ length s) where
+    front-length : length (take at s) ≡ at
+    front-length = length-take-le at s (omega arith)
+
+    pub placed-length : length (placed s at t) ≡ length s
+    placed-length = simp (length-append, length-take, length-drop) (omega arith)
+
+    pub placed-in : (i : ℕ) → i < length t → getD (placed s at t) (at + i) 0 ≡ getD t i 0
+    placed-in i l =
+        subst (λ (n : ℕ). getD (placed s at t) (n + i) 0 ≡ getD t i 0) front-length
+        (getD-append-add (take at s) (t ++ drop (at + length t) s) i 0 ∙ List·getD-append t (drop (at + length t) s) 0 i l)
+
+    pub placed-before : (i : ℕ) → i < at → getD (placed s at t) i 0 ≡ getD s i 0
+    placed-before i l =
+        List·getD-append (take at s) (t ++ drop (at + length t) s) 0 i (omega (arith, front-length)) ∙ getD-take at s i 0 l
+
+    pub placed-after : (i : ℕ) → getD (placed s at t) (at + length t + i) 0 ≡ getD s (at + length t + i) 0
+    placed-after i =
+        let head : length (take at s ++ t) ≡ at + length t = length-append (take at s) t ∙ rw front-length in
+        rw (← append-assoc (take at s) t (drop (at + length t) s))
+        (subst (λ (n : ℕ). getD ((take at s ++ t) ++ drop (at + length t) s) (n + i) 0 ≡ getD s (at + length t + i) 0) head
+        (getD-append-add (take at s ++ t) (drop (at + length t) s) i 0 ∙ getD-drop (at + length t) s i 0))
+
+-- behind the first n bytes
+placed-behind : (p r u : List ℕ) (n : ℕ) → length p ≡ n → placed (p ++ r) n u ≡ p ++ (u ++ drop (length u) r)
+placed-behind p r u n l = rw (take-at p r n l, ← drop-drop (length u) n (p ++ r), drop-at p r n l)
+
+-- one more behind it
+pub placed-more : (s : List ℕ) (at : ℕ) (t u : List ℕ) → at ≤ length s → placed (placed s at t) (at + length t) u ≡ placed s at (t ++ u)
+placed-more s at t u l =
+    let r : List ℕ = drop (at + length t) s in
+    let n : length (take at s ++ t) ≡ at + length t = length-append (take at s) t ∙ rw (length-take-le at s l) in
+    let m : at + length (t ++ u) ≡ at + length t + length u = omega (arith, length-append t u) in
+    ap (λ (x : List ℕ). placed x (at + length t) u) (sym (append-assoc (take at s) t r))
+    ∙ placed-behind (take at s ++ t) r u (at + length t) n
+    ∙ rw (drop-drop (length u) (at + length t) s, m) (simp append-assoc)
+
+-- the next part is placed behind those that are
+pub placed-next :
+    (s : List ℕ) (at : ℕ) (t xs u : List ℕ) (a : ℕ) → xs ≡ placed s at t → a ≡ at + length t → at ≤ length s → placed xs a u ≡ placed s at (t ++ u)
+placed-next s at t xs u a h e l = rw (h, e) (placed-more s at t u l)

@@ -1,0 +1,5 @@
+pub mod ReadingLaws
+pub mod WritingLaws
+pub mod StepLaws
+pub mod RunLaws
+pub mod RowsLaws

@@ -1,0 +1,159 @@
+-- Lines of the listing, column after column.
+use mathlib.Core.Path.{_≡_, refl, sym, ap, _∙_}
+use mathlib.Core.List.{List, [], _∷_, _++_, append-assoc, append-nil}
+use Prim.Native.Nat.{ℕ, zero, suc, _+_, _-_, _*_, _≤_}
+use native.Mathlib.Omega.{arith}
+use native.Mathlib.Numerals.{add-one}
+use lib.ListN.{length, getD, set, take, drop, replicate, length-append, length-set, drop-of-length-le}
+use lib.Seq.{getD-take, set-split}
+use borrow.Rule.Slice.PartMut.{putMid}
+use Rattle.array.specs.Index.{joined}
+use Rattle.array.proofs.PlacesLaws.{joined-same, joined-more}
+use Rattle.answer.specs.declared.Answer.{Answer}
+use Rattle.answer.specs.Refusal.{numberOf, lineOf}
+use Rattle.column.specs.Column.{column}
+use Rattle.column.specs.Row.{row}
+use Rattle.column.proofs.ColumnLaws.{column-length}
+use Rattle.column.proofs.RowLaws.{total, row-length}
+use Rattle.array.specs.Place.{placed}
+use Rattle.array.proofs.PlacedLaws.{placed-none, placed-length, placed-next}
+use Rattle.column.proofs.LaidLaws.{laid-none, lay}
+use Rattle.plan.specs.declared.Plan.{Plan}
+use Rattle.memory.specs.declared.Memory.{Memory}
+use Rattle.system.specs.declared.System.{System}
+use Rattle.lines.specs.Listing.{systemNext, planes, working, singleNext, agreeing, frameLine}
+use Rattle.lines.specs.Line.{patternWidth, planesAt, printedWidths, printedSize, refusalLine, refusalSize}
+
+-- ---- a column at a place
+
+pub put-placed :
+    (s ys : List ℕ) (at w v : ℕ) →
+    at + w ≤ length s →
+    ys ≡ column (length (take (at + w - at) (drop at s))) v →
+    putMid at (at + w - at) s ys ≡ placed s at (column w v)
+put-placed s ys at w v l e = lay (laid-none s at) ys at (at + w) w v (omega arith) refl l e .holds
+
+-- ---- the plane values
+
+module _ (v : ℕ → ℕ) where
+  abbrev pub planeColumns : ℕ → List ℕ
+  planeColumns n = joined (λ a. column patternWidth (v a)) n
+
+  pub columns-length : (n : ℕ) → length (planeColumns n) ≡ patternWidth * n
+  unfolding joined
+  columns-length zero = refl
+  columns-length (suc n) =
+      length-append (planeColumns n) (column patternWidth (v n)) ∙ rw (columns-length n, column-length patternWidth (v n)) (omega arith)
+
+  pub columns-none : (s : List ℕ) → s ≡ placed s planesAt (planeColumns 0)
+  unfolding joined
+  columns-none s = placed-none s planesAt
+
+  module _ (s xs : List ℕ) (n : ℕ) (e : xs ≡ placed s planesAt (planeColumns n)) where
+    pub columns-size : planesAt + patternWidth * n ≤ length s → length xs ≡ length s
+    columns-size l = ap length e ∙ placed-length s planesAt (planeColumns n) (omega (arith, columns-length n))
+
+    -- one more
+    pub columns-more : {ys : List ℕ} → planesAt ≤ length s → ys ≡ placed xs (planesAt + patternWidth * n) (column patternWidth (v n)) → ys ≡ placed s planesAt (planeColumns (n + 1))
+    columns-more l f =
+        f ∙ placed-next s planesAt (planeColumns n) xs (column patternWidth (v n)) (planesAt + patternWidth * n) e (omega (arith, columns-length n)) l
+        ∙ ap (placed s planesAt) (sym (joined-more (λ a. column patternWidth (v a)) n))
+
+    -- and the line feed
+    pub columns-ended :
+        printedSize n ≤ length s →
+        set xs (planesAt + patternWidth * n) 10 ≡ placed s planesAt (planeColumns n ++ (10 ∷ []))
+    columns-ended l =
+        set-split xs (planesAt + patternWidth * n) 10 (omega (arith, columns-size (omega arith)))
+        ∙ rw (← add-one (planesAt + patternWidth * n)) (placed-next s planesAt (planeColumns n) xs (10 ∷ []) (planesAt + patternWidth * n) e (omega (arith, columns-length n)) (omega arith))
+
+-- ---- rows
+
+pub joined-front : (f : ℕ → List ℕ) (n : ℕ) → joined f (suc n) ≡ f 0 ++ joined (λ k. f (suc k)) n
+unfolding joined
+joined-front f zero = sym (append-nil (f 0))
+joined-front f (suc n) = ap (λ (l : List ℕ). l ++ f (suc n)) (joined-front f n) ∙ append-assoc (f 0) (joined (λ k. f (suc k)) n) (f (suc n))
+
+-- a row of equal widths
+row-of-columns : (n : ℕ) (vs : List ℕ) → row (replicate n patternWidth) vs ≡ planeColumns (λ a. getD vs a 0) n ++ (10 ∷ [])
+unfolding row joined
+row-of-columns zero vs = refl
+row-of-columns (suc n) [] = rw (joined-front (λ a. column patternWidth 0) n, append-assoc) (ap (λ (l : List ℕ). column patternWidth 0 ++ l) (row-of-columns n []))
+row-of-columns (suc n) (v ∷ vs) =
+    rw (joined-front (λ a. column patternWidth (getD (v ∷ vs) a 0)) n, append-assoc)
+    (ap (λ (l : List ℕ). column patternWidth v ++ l) (row-of-columns n vs))
+
+-- what fills its place
+placed-whole : (s t : List ℕ) → length t ≡ length s → placed s 0 t ≡ t
+placed-whole s t e = ap (λ (l : List ℕ). t ++ l) (drop-of-length-le s {i = 0 + length t} (omega arith)) ∙ append-nil t
+
+-- the line of a frame, in a place of its size
+module _ (s : List ℕ) (n : ℕ) (size : length s ≡ printedSize n) (f w g : ℕ) (vs : List ℕ) where
+  abbrev frameColumns : List ℕ
+  frameColumns = ((column 8 f ++ column 4 w) ++ column 4 g) ++ (planeColumns (λ k. getD vs k 0) n ++ (10 ∷ []))
+
+  frame-size : length frameColumns ≡ length s
+  frame-size =
+      rw (length-append, length-append, length-append, length-append, column-length 8 f, column-length 4 w, column-length 4 g, columns-length (λ k. getD vs k 0) n, size)
+      (omega arith)
+
+  frame-columns : frameColumns ≡ row (printedWidths n) (f ∷ w ∷ g ∷ take n vs)
+  unfolding row printedWidths
+  frame-columns =
+      rw (row-of-columns n (take n vs), joined-same (λ a. column patternWidth (getD (take n vs) a 0)) (λ a. column patternWidth (getD vs a 0)) n (λ i l. ap (column patternWidth) (getD-take n vs i 0 l)))
+      (simp append-assoc)
+
+  pub frame-row :
+      {a b c d : List ℕ} →
+      a ≡ placed s 0 (column 8 f) →
+      b ≡ placed a 8 (column 4 w) →
+      c ≡ placed b 12 (column 4 g) →
+      d ≡ placed c planesAt (planeColumns (λ k. getD vs k 0) n ++ (10 ∷ [])) →
+      d ≡ row (printedWidths n) (f ∷ w ∷ g ∷ take n vs)
+  frame-row {a} {b} {c} {d} x y z u =
+      let t1 : List ℕ = column 8 f in
+      let t2 : List ℕ = t1 ++ column 4 w in
+      let t3 : List ℕ = t2 ++ column 4 g in
+      let l1 : length t1 ≡ 8 = column-length 8 f in
+      let l2 : length t2 ≡ 12 = length-append t1 (column 4 w) ∙ rw (l1, column-length 4 w) in
+      let l3 : length t3 ≡ planesAt = length-append t2 (column 4 g) ∙ rw (l2, column-length 4 g) in
+      let y2 : b ≡ placed s 0 t2 = y ∙ placed-next s 0 t1 a (column 4 w) 8 x (omega arith) (omega arith) in
+      let z2 : c ≡ placed s 0 t3 = z ∙ placed-next s 0 t2 b (column 4 g) 12 y2 (omega arith) (omega arith) in
+      u ∙ placed-next s 0 t3 c (planeColumns (λ k. getD vs k 0) n ++ (10 ∷ [])) planesAt z2 (omega arith) (omega arith)
+      ∙ placed-whole s frameColumns frame-size
+      ∙ frame-columns
+
+-- ---- the line of a refusal
+
+pub refusal-row :
+    (s : List ℕ) (m : Answer) {a b : List ℕ} →
+    refusalSize ≤ length s →
+    a ≡ placed s 0 (column 4 (numberOf m)) →
+    b ≡ placed a 4 (column 8 (lineOf m)) →
+    (length (set b 12 10) ≡ length s) × (set b 12 10 ≡ placed s 0 (refusalLine m))
+unfolding refusalLine row
+refusal-row s m {a} {b} l x y =
+    let t1 : List ℕ = column 4 (numberOf m) in
+    let t2 : List ℕ = t1 ++ column 8 (lineOf m) in
+    let l1 : length t1 ≡ 4 = column-length 4 (numberOf m) in
+    let l2 : length t2 ≡ 12 = length-append t1 (column 8 (lineOf m)) ∙ rw (l1, column-length 8 (lineOf m)) in
+    let y2 : b ≡ placed s 0 t2 = y ∙ placed-next s 0 t1 a (column 8 (lineOf m)) 4 x (omega arith) (omega arith) in
+    let k : length b ≡ length s = ap length y2 ∙ placed-length s 0 t2 (omega arith) in
+    (length-set b 12 10 ∙ k, set-split b 12 10 (omega arith) ∙ placed-next s 0 t2 b (10 ∷ []) 12 y2 (omega arith) (omega arith) ∙ ap (placed s 0) (append-assoc t1 (column 8 (lineOf m)) (10 ∷ [])))
+
+pub refusal-length : (m : Answer) → length (refusalLine m) ≡ refusalSize
+unfolding refusalLine total
+refusal-length m = row-length (4 ∷ 8 ∷ []) (numberOf m ∷ lineOf m ∷ [])
+
+-- ---- their sizes
+
+pub total-of-columns : (n : ℕ) → total (replicate n patternWidth) ≡ patternWidth * n
+unfolding total
+total-of-columns zero = refl
+total-of-columns (suc n) = rw (total-of-columns n) (omega arith)
+
+pub frame-length : (p : Plan) (sys : System) (single : Memory) (frame : ℕ) (l : List ℕ) → length (frameLine p sys single frame l) ≡ printedSize (p .actuators)
+unfolding frameLine printedWidths total
+frame-length p sys single frame l =
+    row-length (printedWidths (p .actuators)) (frame ∷ working p sys l ∷ agreeing p (systemNext p sys l) (singleNext p single l) ∷ planes p sys l)
+    ∙ rw (total-of-columns (p .actuators)) (omega arith)

@@ -1,0 +1,17 @@
+-- `lines::step::stopped` meets its contract.
+use mathlib.Core.Path.{ap, _∙_}
+use borrow.Author.Needs.{needs}
+use Rattle.memory.specs.declared.Memory.{Memory}
+use Rattle.system.specs.declared.System.{System}
+use Rattle.lines.specs.Step.{printedWith}
+use Rattle.lines.proofs.step.stopped.Statement.{statement}
+use Rattle.lines.proofs.step.stopped.Tie as tie
+
+returns : tie.Need-returns
+returns c = let a = c .before .before .before .before .args in
+    λ sys single h.
+    ap (λ (y : System). printedWith (a .answer) (a .count) (a .plan) (a .period) y (c .pack-single .result) (a .frame)) (c .before .pack-system .ensures sys single h)
+    ∙ ap (λ (m : Memory). printedWith (a .answer) (a .count) (a .plan) (a .period) sys m (a .frame)) (c .pack-single .ensures ∙ h .single-is)
+
+pub stopped-spec : {M : Type 1} → statement M
+stopped-spec = tie.close (tie.spec (λ c κs. search needs) (λ c κs. search needs) returns)

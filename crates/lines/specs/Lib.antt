@@ -1,0 +1,4 @@
+pub mod Line
+pub mod Listing
+pub mod Run
+pub mod Step

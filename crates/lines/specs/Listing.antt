@@ -1,0 +1,113 @@
+-- Document 01, 'The run program': what is printed, from the bytes of the two files. A run's lines are blocks of one size: the first that is not of form is
+-- refused, and before it blocks and line feeds count the same.
+use mathlib.Core.Bool.{Bool, true, false, cond, _&&_}
+use mathlib.Core.List.{List, [], _∷_, _++_}
+use mathlib.Core.Option.{Option, none, some, Option·getD}
+use Prim.Native.Nat.{ℕ, zero, suc, _+_, _-_, _*_}
+use lib.Dec.{eqb, ltb}
+use lib.ListN.{length, take, drop, replicate}
+use Rattle.array.specs.Index.{howMany, joined}
+use Rattle.column.specs.Row.{row}
+use Rattle.answer.specs.declared.Answer.{Answer}
+use Rattle.answer.specs.declared.Answer.the-variants.{RunLine}
+use Rattle.plan.specs.declared.Plan.{Plan}
+use Rattle.text.specs.Meant.{planOf}
+use Rattle.text.specs.Refused.{textRefusal}
+use Rattle.memory.specs.declared.Memory.{Memory}
+use Rattle.memory.specs.Node.{poweredOn, computed}
+use Rattle.system.specs.declared.System.{System}
+use Rattle.system.specs.System.{powerOn}
+use Rattle.system.specs.Fault.{faultsSize}
+use Rattle.system.specs.Frame.{memoryOf, systemAfter, placeAfter, isWorking, sameMemory}
+use Rattle.lines.specs.Line.{runLineSize, maskIn, fillIn, sensorsIn, runNumbers, printedWidths, refusalLine}
+
+-- "10: .. or line 100,001"
+abbrev pub mostLines : ℕ
+mostLines = 100000
+
+-- how many of the first n lines stand before the first that fails the test
+unfoldable pub leading : (ℕ → Bool) → ℕ → ℕ
+leading q zero = 0
+leading q (suc n) = cond (eqb (leading q n) n && q n) (suc n) (leading q n)
+
+abbrev pub isSome : Option (List ℕ) → Bool
+isSome none = false
+isSome (some l) = true
+
+-- the numbers of the line of a frame, from its bytes, if it is not refused: 10
+unfoldable pub lineNumbers : Plan → ℕ → List ℕ → Option (List ℕ)
+lineNumbers p frame line = cond (ltb frame mostLines) (runNumbers (p .nodes) (p .sensors) line) none
+
+-- ---- one frame, from a run line's numbers l
+
+module _ (p : Plan) (sys : System) (l : List ℕ) where
+  -- "all fault bytes of the frame equal fill"
+  unfoldable pub faultBytes : List ℕ
+  faultBytes = replicate (faultsSize p) (fillIn l)
+
+  unfoldable pub systemNext : System
+  systemNext = systemAfter p sys (sensorsIn l) (maskIn l) faultBytes
+
+  unfoldable pub planes : List ℕ
+  planes = placeAfter p sys (sensorsIn l) (maskIn l) faultBytes (replicate (p .actuators) 0)
+
+  unfoldable pub working : ℕ
+  working = howMany (isWorking p sys (maskIn l)) (p .nodes)
+
+unfoldable pub singleNext : Plan → Memory → List ℕ → Memory
+singleNext p single l = computed p (sensorsIn l) single
+
+-- "nodes whose memory then equals the single controller's"
+unfoldable pub agreeing : Plan → System → Memory → ℕ
+agreeing p sys single = howMany (λ i. sameMemory p (memoryOf sys i) single) (p .nodes)
+
+-- "It prints per frame"
+unfoldable pub frameLine : Plan → System → Memory → ℕ → List ℕ → List ℕ
+frameLine p sys single frame l =
+    row (printedWidths (p .actuators))
+    (frame ∷ working p sys l ∷ agreeing p (systemNext p sys l) (singleNext p single l) ∷ planes p sys l)
+
+-- ---- a run, or what is left of one, whose first frame has the number `first` and finds this record and this single controller
+
+module _ (p : Plan) (sys : System) (single : Memory) (first : ℕ) (run : List ℕ) where
+  -- the numbers of line k, if it is of form and within the limits
+  unfoldable pub lineOf : ℕ → Option (List ℕ)
+  lineOf k = runNumbers (p .nodes) (p .sensors) (take (runLineSize (p .sensors)) (drop (k * runLineSize (p .sensors)) run))
+
+  unfoldable pub numbersOf : ℕ → List ℕ
+  numbersOf k = Option·getD (lineOf k) []
+
+  -- record and single controller before frame k of these
+  unfoldable pub systemAt : ℕ → System
+  systemAt zero = sys
+  systemAt (suc k) = systemNext p (systemAt k) (numbersOf k)
+
+  unfoldable pub singleAt : ℕ → Memory
+  singleAt zero = single
+  singleAt (suc k) = singleNext p (singleAt k) (numbersOf k)
+
+  unfoldable pub printedAt : ℕ → List ℕ
+  printedAt k = frameLine p (systemAt k) (singleAt k) (first + k) (numbersOf k)
+
+  -- the frames that are run: up to the first line that is refused
+  unfoldable pub frames : ℕ
+  frames = leading (λ k. isSome (lineOf k)) (mostLines - first)
+
+  unfoldable pub printed : List ℕ
+  printed = joined printedAt frames
+
+  -- whether a line is left, which then is refused
+  unfoldable pub lineLeft : Bool
+  lineLeft = ltb (frames * runLineSize (p .sensors)) (length run)
+
+  unfoldable pub runListing : List ℕ
+  runListing = printed ++ cond lineLeft (refusalLine (RunLine (first + frames + 1))) []
+
+-- ---- the whole listing: "A refusal prints .. and ends the listing"; "an empty run under an accepted plan prints no line"
+
+unfoldable pub unlessRefused : Option Answer → Plan → List ℕ → List ℕ
+unlessRefused none p run = runListing p (powerOn p) (poweredOn p) 0 run
+unlessRefused (some a) p run = refusalLine a
+
+unfoldable pub listing : List ℕ → List ℕ → List ℕ
+listing plan run = unlessRefused (textRefusal plan) (planOf plan) run

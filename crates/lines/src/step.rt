@@ -1,0 +1,396 @@
+// The steps of a run, for callers that know the plan to be accepted, its period, and the lengths to be right.
+ghost use mathlib.Core.Path.{_≡_};
+ghost use mathlib.Core.Bool.{true, false, cond};
+ghost use mathlib.Core.List.{List, _∷_, _++_, []};
+ghost use mathlib.Core.Option.{none};
+ghost use Prim.Native.Nat.{ℕ, _+_, _*_, _<_, _≤_, min};
+ghost use lib.Dec.{ltb};
+ghost use lib.ListN.{length, replicate, getD, take};
+ghost use Rattle.array.specs.Index.{joined};
+ghost use Rattle.column.specs.Column.{column};
+ghost use Rattle.column.specs.Row.{row, numbersFrom};
+ghost use Rattle.plan.specs.Accepted.{accepted};
+ghost use Rattle.plan.specs.Known.{period as periodOf};
+ghost use Rattle.plan.specs.Limits.{mostNodes, mostFrames, mostCells, mostSensors, mostActuators};
+ghost use Rattle.array.specs.Place.{placed};
+ghost use Rattle.rows.specs.Rows.{rowCount, wordCount, Rows, Ready, Lent};
+ghost use Rattle.lines.specs.Line.{runLineSize, printedWidths, printedSize, patternWidth, sensorsAt, runNumbers, planesAt, refusalLine, refusalSize};
+ghost use Rattle.lines.specs.Listing.{mostLines, lineNumbers, systemNext, singleNext, frameLine};
+ghost use Rattle.lines.specs.Step.{blockLines, stepAnswer, stepPlace, printedWith, linesAnswer, linesPlace, ifRead, lineRead};
+use super::Printed;
+use super::Run;
+use answer::Answer;
+use column::Number;
+use memory::Memory;
+use plan::Plan;
+use system::System;
+
+// A run has at most so many lines.
+pub const LINES: usize = 100000;
+
+// The most lines that one call of `lines` runs.
+pub const BLOCK: usize = 128;
+
+// ---- a run line
+
+// Mask and fill; the patterns are in the array beside it.
+pub enum LineRead {
+    Whole(u64, u64),
+    Refused,
+}
+
+// The patterns of a line that has its length and its line feed.
+fn read_patterns(line: &[u8], count: usize, patterns: &mut [u64; Plan::SENSORS]) -> bool
+    requires { ⌜ (count ≤ mostSensors) × (length (now line) ≡ runLineSize count) × (getD (now line) (sensorsAt + patternWidth * count) 0 ≡ 10) ⌝ }
+    ensures { λ r. ⌜ ifRead r (take count (now (patterns .exit))) ≡ numbersFrom sensorsAt (replicate count patternWidth) (now (line .entry)) ⌝ }
+{
+    // Stored whole first: so the proof knows the array's length.
+    *patterns = [0; Plan::SENSORS];
+    let mut k: usize = 0;
+    while k < count {
+        let at = 8 + 20 * k;
+        let Number::Value(v) = column::read(line, at, at + 20) else {
+            return false;
+        };
+        patterns[k] = v;
+        k += 1;
+    }
+    true
+}
+
+// A line under a plan of so many nodes and sensors.
+fn read_line(
+    line: &[u8],
+    nodes: usize,
+    sensors: usize,
+    patterns: &mut [u64; Plan::SENSORS],
+) -> LineRead
+    requires { ⌜ (nodes ≤ mostNodes) × (sensors ≤ mostSensors) ⌝ }
+    ensures { λ r. ⌜ lineRead r (take sensors (now (patterns .exit))) ≡ runNumbers nodes sensors (now (line .entry)) ⌝ }
+{
+    let end = 8 + 20 * sensors;
+    if line.len() != end + 1 {
+        return LineRead::Refused;
+    }
+    if line[end] != 10 {
+        return LineRead::Refused;
+    }
+    let Number::Value(mask) = column::read(line, 0, 4) else {
+        return LineRead::Refused;
+    };
+    let Number::Value(fill) = column::read(line, 4, 8) else {
+        return LineRead::Refused;
+    };
+    if mask >> nodes != 0 {
+        return LineRead::Refused;
+    }
+    if 255 < fill {
+        return LineRead::Refused;
+    }
+    if !read_patterns(line, sensors, patterns) {
+        return LineRead::Refused;
+    }
+    LineRead::Whole(mask, fill)
+}
+
+// ---- a line of the listing
+
+// Fills the column of a width at a place.
+fn put(out: &mut [u8], at: usize, width: usize, v: u64)
+    requires { ⌜ (at + width ≤ length (now out)) × (width ≤ patternWidth) × (at ≤ printedSize mostActuators) ⌝ }
+    ensures { λ _. ⌜ now (out .exit) ≡ placed (now (out .entry)) at (column width v) ⌝ }
+{
+    column::write(&mut out[at..at + width], v);
+}
+
+// The plane values, and the line feed.
+fn put_planes(out: &mut [u8], planes: &[u64; Plan::ACTUATORS], count: usize)
+    requires { ⌜ (count ≤ mostActuators) × (printedSize count ≤ length (now out)) ⌝ }
+    ensures { λ _. ⌜ now (out .exit) ≡ placed (now (out .entry)) planesAt (joined (λ a. column patternWidth (getD (now (planes .entry)) a 0)) count ++ (10 ∷ [])) ⌝ }
+{
+    let mut a: usize = 0;
+    while a < count {
+        put(out, 16 + 20 * a, 20, planes[a]);
+        a += 1;
+    }
+    out[16 + 20 * count] = 10;
+}
+
+// The line of a frame.
+fn write_frame(
+    out: &mut [u8],
+    frame: usize,
+    working: usize,
+    agreeing: usize,
+    planes: &[u64; Plan::ACTUATORS],
+    count: usize,
+)
+    requires { ⌜ (count ≤ mostActuators) × (length (now out) ≡ printedSize count) ⌝ }
+    ensures { λ _. ⌜ now (out .exit) ≡ row (printedWidths count) (frame ∷ working ∷ agreeing ∷ take count (now (planes .entry))) ⌝ }
+{
+    put(out, 0, 8, frame as u64);
+    put(out, 8, 4, working as u64);
+    put(out, 12, 4, agreeing as u64);
+    put_planes(out, planes, count);
+}
+
+// The line of a refusal.
+pub fn write_refusal(out: &mut [u8], answer: Answer)
+    requires { ⌜ refusalSize ≤ length (now out) ⌝ }
+    ensures { λ _. ⌜ now (out .exit) ≡ placed (now (out .entry)) 0 (refusalLine answer) ⌝ }
+{
+    put(out, 0, 4, answer.number() as u64);
+    put(out, 4, 8, answer.line() as u64);
+    out[12] = 10;
+}
+
+// ---- the steps
+
+// A line that is run or refused, and what stands after it.
+pub struct Stepped {
+    pub taken: bool,
+    pub system: System,
+    pub single: Memory,
+}
+
+pub fn line_size(sensors: usize) -> usize
+    requires { ⌜ sensors ≤ mostSensors ⌝ }
+    ensures { λ r. ⌜ r ≡ runLineSize sensors ⌝ }
+{
+    9 + 20 * sensors
+}
+
+pub fn printed_size(actuators: usize) -> usize
+    requires { ⌜ actuators ≤ mostActuators ⌝ }
+    ensures { λ r. ⌜ r ≡ printedSize actuators ⌝ }
+{
+    17 + 20 * actuators
+}
+
+// Where the part of `size` from a place on ends, in bytes of a length.
+pub fn part_end(at: usize, len: usize, size: usize) -> usize
+    requires { ⌜ at ≤ len ⌝ }
+    ensures { λ r. ⌜ r ≡ min (at + size) len ⌝ }
+{
+    if len - at < size {
+        return len;
+    }
+    at + size
+}
+
+fn refused(system: System, single: Memory) -> Stepped
+    ensures { λ r. ⌜ (r .taken ≡ false) × (r .system ≡ system) × (r .single ≡ single) ⌝ }
+{
+    Stepped {
+        taken: false,
+        system,
+        single,
+    }
+}
+
+// The numbers of the line of a frame.
+fn frame_numbers(
+    frame: usize,
+    line: &[u8],
+    nodes: usize,
+    sensors: usize,
+    patterns: &mut [u64; Plan::SENSORS],
+) -> LineRead
+    requires { ⌜ (nodes ≤ mostNodes) × (sensors ≤ mostSensors) ⌝ }
+    ensures { λ r. ⌜ lineRead r (take sensors (now (patterns .exit))) ≡ cond (ltb frame mostLines) (runNumbers nodes sensors (now (line .entry))) none ⌝ }
+{
+    if LINES <= frame {
+        return LineRead::Refused;
+    }
+    read_line(line, nodes, sensors, patterns)
+}
+
+// The frame of rows that have run their tasks, and its line.
+fn finish_line<'a>(
+    voted: &'a [bool; Plan::VOTES],
+    table: &'a [usize; Plan::ACTUATORS],
+    nodes: usize,
+    frames: usize,
+    count: usize,
+    actuators: usize,
+    period: usize,
+    mask: u64,
+    fill: u64,
+    frame: usize,
+    counters: &mut [u16],
+    cells: &mut [u64],
+    good: &mut [u16; System::NODES],
+    out: &mut [u8],
+)
+    requires { ⌜ (length (now counters) ≡ rowCount) × (length (now cells) ≡ wordCount) × (0 < nodes) × (nodes ≤ mostNodes) × (0 < frames) × (frames ≤ mostFrames) × (count ≤ mostCells) × (period < 65536) × (fill ≤ 255) × (actuators ≤ mostActuators) × ((a : ℕ) → a < actuators → getD (now table) a 0 < mostCells) × (length (now out) ≡ printedSize actuators) ⌝ }
+    ensures { λ _. ⌜ ((p : Plan) (sys : System) (single : Memory) (sensors : List ℕ) → Lent p (now (voted .entry)) (now (table .entry)) nodes frames count → p .actuators ≡ actuators → period ≡ periodOf p → Ready p sys single sensors (now (counters .entry)) (now (cells .entry)) (now (good .entry)) → Rows (systemNext p sys (mask ∷ fill ∷ sensors)) (singleNext p single (mask ∷ fill ∷ sensors)) (now (counters .exit)) (now (cells .exit)) (now (good .exit)) × (now (out .exit) ≡ frameLine p sys single frame (mask ∷ fill ∷ sensors))) ⌝ }
+{
+    let working = rows::step::working(good, nodes, period, mask);
+    let mut planes = [0u64; Plan::ACTUATORS];
+    rows::step::finish(
+        voted,
+        table,
+        nodes,
+        frames,
+        count,
+        period,
+        mask,
+        fill,
+        counters,
+        cells,
+        good,
+        &mut planes[0..actuators],
+    );
+    let agreeing = rows::step::agreeing(counters, cells, nodes, count);
+    write_frame(out, frame, working, agreeing, &planes, actuators);
+}
+
+// One line of a run: a frame, or nothing where the line is refused.
+pub fn line(
+    plan: Plan,
+    period: usize,
+    system: System,
+    single: Memory,
+    frame: usize,
+    line: &[u8],
+    out: &mut [u8],
+) -> Stepped
+    requires { ⌜ (accepted plan ≡ true) × (period ≡ periodOf plan) × (length (now out) ≡ printedSize (plan .actuators)) ⌝ }
+    ensures { λ r. ⌜ (r ≡ stepAnswer plan system single (lineNumbers plan frame (now (line .entry)))) × (now (out .exit) ≡ stepPlace plan system single frame (lineNumbers plan frame (now (line .entry))) (now (out .entry))) ⌝ }
+{
+    let sensors = plan.sensors;
+    let mut patterns = [0u64; Plan::SENSORS];
+    let LineRead::Whole(mask, fill) = frame_numbers(frame, line, plan.nodes, sensors, &mut patterns)
+    else {
+        return refused(system, single);
+    };
+    let mut good = system.good;
+    let mut counters = [0u16; rows::step::ROWS];
+    let mut cells = [0u64; rows::step::WORDS];
+    rows::step::unpack(system, single, &mut counters, &mut cells);
+    rows::step::compute(plan, &patterns[0..sensors], &mut counters, &mut cells);
+    finish_line(
+        &plan.voted,
+        &plan.actuator_cell,
+        plan.nodes,
+        plan.frames,
+        plan.cells,
+        plan.actuators,
+        period,
+        mask,
+        fill,
+        frame,
+        &mut counters,
+        &mut cells,
+        &mut good,
+        out,
+    );
+    let after = rows::step::pack_system(&counters, &cells, good);
+    let memory = rows::step::pack_single(&counters, &cells);
+    Stepped {
+        taken: true,
+        system: after,
+        single: memory,
+    }
+}
+
+// What stands where a run stops.
+fn stopped(
+    answer: Answer,
+    count: usize,
+    plan: Plan,
+    period: usize,
+    counters: &[u16],
+    cells: &[u64],
+    good: [u16; System::NODES],
+    frame: usize,
+) -> Printed
+    requires { ⌜ (length (now counters) ≡ rowCount) × (length (now cells) ≡ wordCount) ⌝ }
+    ensures { λ r. ⌜ ((sys : System) (single : Memory) → Rows sys single (now (counters .entry)) (now (cells .entry)) good → r ≡ printedWith answer count plan period sys single frame) ⌝ }
+{
+    let system = rows::step::pack_system(counters, cells, good);
+    let single = rows::step::pack_single(counters, cells);
+    let run = Run {
+        plan,
+        period,
+        system,
+        single,
+        frame,
+    };
+    Printed { answer, count, run }
+}
+
+// The lines of a part of a run, at most BLOCK of them, until one is refused. The frames go over rows, which are lent to every step.
+pub fn lines(run: Run, rest: &[u8], out: &mut [u8]) -> Printed
+    requires { ⌜ (accepted (run .plan) ≡ true) × (run .period ≡ periodOf (run .plan)) × (run .frame ≤ mostLines) × (length (now rest) ≤ blockLines * runLineSize (run .plan .sensors)) × (blockLines * printedSize (run .plan .actuators) ≤ length (now out)) ⌝ }
+    ensures { λ r. ⌜ (r ≡ linesAnswer run (now (rest .entry))) × (now (out .exit) ≡ linesPlace run (now (rest .entry)) (now (out .entry))) ⌝ }
+{
+    let plan = run.plan;
+    let period = run.period;
+    let system = run.system;
+    let single = run.single;
+    let first = run.frame;
+    let sensors = plan.sensors;
+    let size = line_size(sensors);
+    let width = printed_size(plan.actuators);
+    let len = rest.len();
+    let mut good = system.good;
+    let mut counters = [0u16; rows::step::ROWS];
+    let mut cells = [0u64; rows::step::WORDS];
+    rows::step::unpack(system, single, &mut counters, &mut cells);
+    let mut patterns = [0u64; Plan::SENSORS];
+    let mut k: usize = 0;
+    let mut at: usize = 0;
+    let mut to: usize = 0;
+    while at < len {
+        let end = part_end(at, len, size);
+        let LineRead::Whole(mask, fill) = frame_numbers(
+            first + k,
+            &rest[at..end],
+            plan.nodes,
+            sensors,
+            &mut patterns,
+        ) else {
+            return stopped(
+                Answer::RunLine(first + k + 1),
+                to,
+                plan,
+                period,
+                &counters,
+                &cells,
+                good,
+                first + k,
+            );
+        };
+        rows::step::compute(plan, &patterns[0..sensors], &mut counters, &mut cells);
+        finish_line(
+            &plan.voted,
+            &plan.actuator_cell,
+            plan.nodes,
+            plan.frames,
+            plan.cells,
+            plan.actuators,
+            period,
+            mask,
+            fill,
+            first + k,
+            &mut counters,
+            &mut cells,
+            &mut good,
+            &mut out[to..to + width],
+        );
+        k += 1;
+        at += size;
+        to += width;
+    }
+    stopped(
+        Answer::Done,
+        to,
+        plan,
+        period,
+        &counters,
+        &cells,
+        good,
+        first + k,
+    )
+}

@@ -1,0 +1,4 @@
+pub mod StepLaws
+pub mod MessageLaws
+pub mod NodeLaws
+pub mod VoteLaws

@@ -1,0 +1,21 @@
+// One node's memory.
+ghost use mathlib.Core.Path.{_≡_};
+ghost use Rattle.memory.specs.Node.{zeroMemory};
+use plan::Plan;
+
+pub mod step;
+
+// Any memory is legal input; what lies past the plan's cells is neither read nor changed.
+pub struct Memory {
+    pub counter: u16,
+    pub cells: [u64; Plan::CELLS],
+}
+
+pub fn zero_memory() -> Memory
+    ensures { λ r. ⌜ r ≡ zeroMemory ⌝ }
+{
+    Memory {
+        counter: 0,
+        cells: [0; Plan::CELLS],
+    }
+}

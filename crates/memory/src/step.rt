@@ -1,0 +1,201 @@
+// The steps of a node, for callers that know the plan to be accepted and the lengths to be right.
+ghost use mathlib.Core.Path.{_≡_};
+ghost use mathlib.Core.Bool.{true, cond};
+ghost use Prim.Native.Nat.{ℕ, _+_, _-_, _*_, _%_, _<_, _≤_};
+ghost use lib.ListN.{length, getD, replicate};
+ghost use Rattle.array.specs.Index.{fill};
+ghost use Rattle.array.specs.Word.{be};
+ghost use Rattle.plan.specs.Limits.{mostNodes, mostFrames, mostCells, mostActuators};
+ghost use Rattle.plan.specs.Accepted.{accepted};
+ghost use Rattle.memory.specs.Size.{counterSize, patternSize, cellAt, messageSize, mailboxSize};
+ghost use Rattle.memory.specs.Node.{poweredOn, computed, messageOf, voted as votedOf, setpoint};
+use super::Memory;
+use plan::Plan;
+
+pub fn power_on(plan: Plan) -> Memory
+    requires { ⌜ accepted plan ≡ true ⌝ }
+    ensures { λ r. ⌜ r ≡ poweredOn plan ⌝ }
+{
+    let cells = plan.initial;
+    Memory { counter: 0, cells }
+}
+
+// The tasks stand by frame, so the first of a later one ends the scan.
+pub fn compute(plan: Plan, memory: Memory, sensors: &[u64]) -> Memory
+    requires { ⌜ (accepted plan ≡ true) × (length (now sensors) ≡ plan .sensors) ⌝ }
+    ensures { λ r. ⌜ r ≡ computed plan (now (sensors .entry)) memory ⌝ }
+{
+    let frames = plan.frames;
+    let count = plan.task_count;
+    let counter = memory.counter as usize;
+    let g = counter % frames;
+    let mut cells = memory.cells;
+    let mut k: usize = 0;
+    while k < count {
+        let frame = plan.tasks[k].frame;
+        if g < frame {
+            break;
+        }
+        if frame == g {
+            let t = plan.tasks[k];
+            task::step::run_task(&mut cells, t, sensors);
+        }
+        k += 1;
+    }
+    let next = ((g + 1) % frames) as u16;
+    Memory {
+        counter: next,
+        cells,
+    }
+}
+
+pub fn message_size(cells: usize) -> usize
+    requires { ⌜ cells ≤ mostCells ⌝ }
+    ensures { λ r. ⌜ r ≡ cellAt cells ⌝ }
+{
+    2 + 8 * cells
+}
+
+// The frame before a counter.
+pub fn frame_before(counter: u16, frames: usize) -> usize
+    requires { ⌜ (0 < frames) × (frames ≤ 16) ⌝ }
+    ensures { λ r. ⌜ (r ≡ (counter + frames - 1) % frames) × (r < frames) ⌝ }
+{
+    (counter as usize + frames - 1) % frames
+}
+
+fn sent(voted: bool, cell: u64) -> u64
+    ensures { λ r. ⌜ r ≡ cond voted cell 0 ⌝ }
+{
+    if voted { cell } else { 0 }
+}
+
+// A message of what is lent of a plan: its contract speaks for every plan that has these votes and numbers.
+pub fn message_with(
+    voted: &[bool; Plan::VOTES],
+    frames: usize,
+    cells: usize,
+    memory: Memory,
+    out: &mut [u8],
+)
+    requires { ⌜ (0 < frames) × (frames ≤ mostFrames) × (cells ≤ mostCells) × (length (now out) ≡ cellAt cells) ⌝ }
+    ensures { λ _. ⌜ ((p : Plan) → p .voted ≡ now (voted .entry) → p .frames ≡ frames → p .cells ≡ cells → now (out .exit) ≡ messageOf p memory) ⌝ }
+{
+    let counter = memory.counter;
+    let g = frame_before(counter, frames);
+    array::step::write2(out, 0, counter);
+    let mut c: usize = 0;
+    while c < cells {
+        let x = sent(voted[Plan::CELLS * g + c], memory.cells[c]);
+        array::step::write8(out, 2 + 8 * c, x);
+        c += 1;
+    }
+}
+
+pub fn message(plan: Plan, memory: Memory, out: &mut [u8])
+    requires { ⌜ (accepted plan ≡ true) × (length (now out) ≡ messageSize plan) ⌝ }
+    ensures { λ _. ⌜ now (out .exit) ≡ messageOf plan memory ⌝ }
+{
+    message_with(&plan.voted, plan.frames, plan.cells, memory, out);
+}
+
+// What the n bins of a mailbox say of the counter, and of the cell that stands at `at` in each.
+fn counters(mailbox: &[u8], n: usize, size: usize) -> [u64; Plan::NODES]
+    requires { ⌜ (n ≤ mostNodes) × (n * size ≤ length (now mailbox)) × (counterSize ≤ size) × (size < 4096) ⌝ }
+    ensures { λ r. ⌜ r ≡ fill (λ j. be counterSize (now (mailbox .entry)) (j * size)) n (replicate mostNodes 0) ⌝ }
+{
+    let mut values = [0u64; Plan::NODES];
+    let mut j: usize = 0;
+    while j < n {
+        values[j] = array::step::read2(mailbox, j * size) as u64;
+        j += 1;
+    }
+    values
+}
+
+fn cells_at(mailbox: &[u8], n: usize, size: usize, at: usize) -> [u64; Plan::NODES]
+    requires { ⌜ (n ≤ mostNodes) × (n * size ≤ length (now mailbox)) × (at + patternSize ≤ size) × (size < 4096) ⌝ }
+    ensures { λ r. ⌜ r ≡ fill (λ j. be patternSize (now (mailbox .entry)) (j * size + at)) n (replicate mostNodes 0) ⌝ }
+{
+    let mut values = [0u64; Plan::NODES];
+    let mut j: usize = 0;
+    while j < n {
+        values[j] = array::step::read8(mailbox, j * size + at);
+        j += 1;
+    }
+    values
+}
+
+// A vote by what is lent of a plan.
+pub fn vote_with(
+    voted: &[bool; Plan::VOTES],
+    nodes: usize,
+    frames: usize,
+    count: usize,
+    memory: Memory,
+    mailbox: &[u8],
+) -> Memory
+    requires { ⌜ (nodes ≤ mostNodes) × (0 < frames) × (frames ≤ mostFrames) × (count ≤ mostCells) × (length (now mailbox) ≡ nodes * cellAt count) ⌝ }
+    ensures { λ r. ⌜ ((p : Plan) → p .voted ≡ now (voted .entry) → p .nodes ≡ nodes → p .frames ≡ frames → p .cells ≡ count → r ≡ votedOf p memory (now (mailbox .entry))) ⌝ }
+{
+    let size = message_size(count);
+    let bins = counters(mailbox, nodes, size);
+    let counter = ballot::step::or_own(
+        frames,
+        memory.counter,
+        ballot::step::majority(&bins, nodes, nodes),
+    );
+    let frame = frame_before(counter, frames);
+    let mut cells = memory.cells;
+    let mut c: usize = 0;
+    while c < count {
+        if voted[Plan::CELLS * frame + c] {
+            let values = cells_at(mailbox, nodes, size, 2 + 8 * c);
+            cells[c] = ballot::step::or_old(
+                ballot::step::majority(&values, nodes, nodes),
+                cells[c],
+            );
+        }
+        c += 1;
+    }
+    Memory { counter, cells }
+}
+
+pub fn vote(plan: Plan, memory: Memory, mailbox: &[u8]) -> Memory
+    requires { ⌜ (accepted plan ≡ true) × (length (now mailbox) ≡ mailboxSize plan) ⌝ }
+    ensures { λ r. ⌜ r ≡ votedOf plan memory (now (mailbox .entry)) ⌝ }
+{
+    vote_with(
+        &plan.voted,
+        plan.nodes,
+        plan.frames,
+        plan.cells,
+        memory,
+        mailbox,
+    )
+}
+
+// The setpoints of a memory's cells, by the cells of the actuators.
+pub fn setpoints_with<'a>(
+    table: &'a [usize; Plan::ACTUATORS],
+    cells: &'a [u64; Plan::CELLS],
+    out: &mut [u64],
+)
+    requires { ⌜ (length (now out) ≤ mostActuators) × ((i : ℕ) → i < length (now out) → getD (now table) i 0 < mostCells) ⌝ }
+    ensures { λ _. ⌜ ((p : Plan) (m : Memory) → p .«actuator_cell» ≡ now (table .entry) → m .cells ≡ now (cells .entry) → now (out .exit) ≡ fill (setpoint p m) (length (now (out .entry))) (now (out .entry))) ⌝ }
+{
+    let count = out.len();
+    let mut i: usize = 0;
+    while i < count {
+        let cell = table[i];
+        out[i] = cells[cell];
+        i += 1;
+    }
+}
+
+pub fn setpoints(plan: Plan, memory: Memory, out: &mut [u64])
+    requires { ⌜ (accepted plan ≡ true) × (length (now out) ≡ plan .actuators) ⌝ }
+    ensures { λ _. ⌜ now (out .exit) ≡ fill (setpoint plan memory) (plan .actuators) (now (out .entry)) ⌝ }
+{
+    setpoints_with(&plan.actuator_cell, &memory.cells, out);
+}

@@ -1,0 +1,234 @@
+// A line's numbers, and the rules on one line.
+ghost use mathlib.Core.Path.{_≡_};
+ghost use Prim.Native.Nat.{_+_};
+ghost use lib.Dec.{eqb, ltb};
+ghost use Rattle.plan.specs.Limits.{mostTasks};
+ghost use Rattle.column.specs.Row.{numbersOf};
+ghost use Rattle.text.specs.Line.{widths, isTask};
+ghost use Rattle.text.specs.Meant.{opOf, taskOf};
+ghost use Rattle.text.specs.Refused.{isHeader, afterCells, taskInOrder, smallerVote, voteInOrder, actuatorInOrder, inOrder, taskZeros, inRange, isLast};
+ghost use Rattle.plan_line.specs.Reader.{numbersIn, numbersRead};
+use column::Number;
+use pattern::WindLaw;
+use plan::Op;
+use plan::Plan;
+use plan::Task;
+
+// The first four columns are indices, the last two may be patterns.
+pub struct Line {
+    pub kind: usize,
+    pub second: usize,
+    pub third: usize,
+    pub fourth: usize,
+    pub fifth: u64,
+    pub sixth: u64,
+}
+
+pub enum LineRead {
+    Whole(Line),
+    Malformed,
+}
+
+pub fn read_line(line: &[u8]) -> LineRead
+    ensures { λ r. ⌜ numbersRead r ≡ numbersOf widths (now (line .entry)) ⌝ }
+{
+    if line.len() != 57 {
+        return LineRead::Malformed;
+    }
+    let Number::Value(kind) = column::read(line, 0, 4) else {
+        return LineRead::Malformed;
+    };
+    let Number::Value(second) = column::read(line, 4, 8) else {
+        return LineRead::Malformed;
+    };
+    let Number::Value(third) = column::read(line, 8, 12) else {
+        return LineRead::Malformed;
+    };
+    let Number::Value(fourth) = column::read(line, 12, 16) else {
+        return LineRead::Malformed;
+    };
+    let Number::Value(fifth) = column::read(line, 16, 36) else {
+        return LineRead::Malformed;
+    };
+    let Number::Value(sixth) = column::read(line, 36, 56) else {
+        return LineRead::Malformed;
+    };
+    if line[56] != 10 {
+        return LineRead::Malformed;
+    }
+    LineRead::Whole(Line {
+        kind: kind as usize,
+        second: second as usize,
+        third: third as usize,
+        fourth: fourth as usize,
+        fifth,
+        sixth,
+    })
+}
+
+pub fn is_task(kind: usize) -> bool
+    ensures { λ r. ⌜ r ≡ isTask kind ⌝ }
+{
+    (10 <= kind) & (kind <= 15)
+}
+
+pub fn is_header(l: Line) -> bool
+    ensures { λ r. ⌜ r ≡ isHeader (numbersIn l) ⌝ }
+{
+    (l.kind == 0)
+        & plan::entries::header_ok(
+            l.second,
+            l.third,
+            l.fourth,
+            l.fifth as usize,
+            l.sixth as usize,
+            0,
+        )
+}
+
+fn after_cells(h: Line, j: usize) -> bool
+    ensures { λ r. ⌜ r ≡ afterCells (numbersIn h) j ⌝ }
+{
+    j == h.fourth
+}
+
+// Whether line j after the header is at most the 64th after the cells.
+fn room_for_task(cells: usize, j: usize) -> bool
+    ensures { λ r. ⌜ r ≡ ltb j (cells + mostTasks) ⌝ }
+{
+    if j < cells {
+        return true;
+    }
+    j - cells < Plan::TASKS
+}
+
+fn task_in_order(h: Line, j: usize, prev: Line, l: Line) -> bool
+    ensures { λ r. ⌜ r ≡ taskInOrder (numbersIn h) j (numbersIn prev) (numbersIn l) ⌝ }
+{
+    room_for_task(h.fourth, j)
+        & (after_cells(h, j) | (is_task(prev.kind) & (prev.second <= l.second)))
+}
+
+fn smaller_vote(prev: Line, l: Line) -> bool
+    ensures { λ r. ⌜ r ≡ smallerVote (numbersIn prev) (numbersIn l) ⌝ }
+{
+    (prev.kind == 20)
+        & ((prev.second < l.second) | ((prev.second == l.second) & (prev.third < l.third)))
+}
+
+fn vote_in_order(h: Line, j: usize, prev: Line, l: Line) -> bool
+    ensures { λ r. ⌜ r ≡ voteInOrder (numbersIn h) j (numbersIn prev) (numbersIn l) ⌝ }
+{
+    after_cells(h, j) | (is_task(prev.kind) | smaller_vote(prev, l))
+}
+
+// Whether b is the number after a.
+fn follows(a: usize, b: usize) -> bool
+    ensures { λ r. ⌜ r ≡ eqb (a + 1) b ⌝ }
+{
+    if a < b {
+        return b - a == 1;
+    }
+    false
+}
+
+fn actuator_in_order(h: Line, j: usize, prev: Line, l: Line) -> bool
+    ensures { λ r. ⌜ r ≡ actuatorInOrder (numbersIn h) j (numbersIn prev) (numbersIn l) ⌝ }
+{
+    let number = l.second;
+    let due = number < h.sixth as usize;
+    if number == 0 {
+        return due & (after_cells(h, j) | (is_task(prev.kind) | (prev.kind == 20)));
+    }
+    due & ((prev.kind == 30) & follows(prev.second, number))
+}
+
+pub fn in_order(h: Line, j: usize, prev: Line, l: Line) -> bool
+    ensures { λ r. ⌜ r ≡ inOrder (numbersIn h) j (numbersIn prev) (numbersIn l) ⌝ }
+{
+    let kind = l.kind;
+    let cells = h.fourth;
+    if kind == 1 {
+        return (j < cells) & (l.second == j);
+    }
+    if j < cells {
+        return false;
+    }
+    if is_task(kind) {
+        return task_in_order(h, j, prev, l);
+    }
+    if kind == 20 {
+        return vote_in_order(h, j, prev, l);
+    }
+    if kind == 30 {
+        return actuator_in_order(h, j, prev, l);
+    }
+    false
+}
+
+fn op_of(l: Line) -> Op
+    ensures { λ r. ⌜ r ≡ opOf (numbersIn l) ⌝ }
+{
+    let kind = l.kind;
+    let a = l.fourth;
+    if kind == 11 {
+        return Op::Sum(a, l.fifth as usize);
+    }
+    if kind == 12 {
+        return Op::Diff(a, l.fifth as usize);
+    }
+    if kind == 13 {
+        return Op::Scale(a, pattern::value(l.fifth));
+    }
+    if kind == 14 {
+        return Op::Limit(a, pattern::value(l.fifth), pattern::value(l.sixth));
+    }
+    if kind == 15 {
+        let rate = pattern::value(l.fifth);
+        let cap = pattern::value(l.sixth);
+        return Op::Wind(a, WindLaw { rate, cap });
+    }
+    Op::Take(a)
+}
+
+pub fn task_of(l: Line) -> Task
+    ensures { λ r. ⌜ r ≡ taskOf (numbersIn l) ⌝ }
+{
+    let op = op_of(l);
+    Task {
+        frame: l.second,
+        target: l.third,
+        op,
+    }
+}
+
+fn task_zeros(l: Line) -> bool
+    ensures { λ r. ⌜ r ≡ taskZeros (numbersIn l) ⌝ }
+{
+    (!(l.kind == 10) | (l.fifth == 0)) & ((14 <= l.kind) | (l.sixth == 0))
+}
+
+pub fn in_range(h: Line, l: Line) -> bool
+    ensures { λ r. ⌜ r ≡ inRange (numbersIn h) (numbersIn l) ⌝ }
+{
+    let kind = l.kind;
+    let cells = h.fourth;
+    if kind == 1 {
+        return (l.third == 0) & (l.fourth == 0) & (l.sixth == 0);
+    }
+    if is_task(kind) {
+        let t = task_of(l);
+        return plan::entries::task_ok(h.third, cells, h.fifth as usize, t) & task_zeros(l);
+    }
+    let zeros = (l.fourth == 0) & (l.fifth == 0) & (l.sixth == 0);
+    if kind == 20 {
+        return (l.second < h.third) & (l.third < cells) & zeros;
+    }
+    (l.third < cells) & zeros
+}
+
+pub fn is_last(h: Line, l: Line) -> bool
+    ensures { λ r. ⌜ r ≡ isLast (numbersIn h) (numbersIn l) ⌝ }
+{
+    (l.kind == 30) & follows(l.second, h.sixth as usize)
+}

@@ -1,0 +1,2 @@
+// Writing the text of a plan.
+pub mod step;

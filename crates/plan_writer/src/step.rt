@@ -1,0 +1,187 @@
+// Writing an accepted plan into a buffer that has room for its text.
+ghost use mathlib.Core.Path.{_≡_};
+ghost use mathlib.Core.Bool.{true, false, cond};
+ghost use mathlib.Core.List.{[], _∷_, _++_};
+ghost use Prim.Native.Nat.{ℕ, _+_, _*_, _≤_};
+ghost use lib.ListN.{length, getD, take, drop};
+ghost use Rattle.array.specs.Index.{howMany, joined};
+ghost use Rattle.column.specs.Row.{row};
+ghost use Rattle.plan.specs.Limits.{mostCells, mostFrames, mostTasks, mostActuators};
+ghost use Rattle.plan.specs.Known.{taskAt, voteFrame, voteCell};
+ghost use Rattle.plan.specs.Accepted.{accepted};
+ghost use Rattle.text.specs.Line.{widths, lineSize, mostLines, cellKind, actuatorKind};
+ghost use Rattle.text.specs.Written.{opLine, taskLine, voteLine, planText};
+ghost use Rattle.array.specs.Place.{placed};
+ghost use Rattle.plan_line.specs.Reader.{numbersIn};
+use plan::Op;
+use plan::Plan;
+use plan::Task;
+use plan_line::Line;
+
+fn numbers(kind: usize, second: usize, third: usize, fourth: usize, fifth: u64, sixth: u64) -> Line
+    ensures { λ r. ⌜ numbersIn r ≡ kind ∷ second ∷ third ∷ fourth ∷ fifth ∷ sixth ∷ [] ⌝ }
+{
+    Line {
+        kind,
+        second,
+        third,
+        fourth,
+        fifth,
+        sixth,
+    }
+}
+
+// Fills line i of the buffer.
+fn write_line(out: &mut [u8], i: usize, l: Line)
+    requires { ⌜ (lineSize * i + lineSize ≤ length (now out)) × (i ≤ mostLines) ⌝ }
+    ensures { λ _. ⌜ now (out .exit) ≡ placed (now (out .entry)) (lineSize * i) (row widths (numbersIn l)) ⌝ }
+{
+    let at = 57 * i;
+    column::write(&mut out[at..at + 4], l.kind as u64);
+    column::write(&mut out[at + 4..at + 8], l.second as u64);
+    column::write(&mut out[at + 8..at + 12], l.third as u64);
+    column::write(&mut out[at + 12..at + 16], l.fourth as u64);
+    column::write(&mut out[at + 16..at + 36], l.fifth);
+    column::write(&mut out[at + 36..at + 56], l.sixth);
+    out[at + 56] = 10;
+}
+
+fn write_cells(initial: &[u64; Plan::CELLS], cells: usize, out: &mut [u8], from: usize)
+    requires { ⌜ (cells ≤ mostCells) × (lineSize * (from + cells) ≤ length (now out)) × (from + cells ≤ mostLines) ⌝ }
+    ensures { λ _. ⌜ now (out .exit) ≡ placed (now (out .entry)) (lineSize * from) (joined (λ c. row widths (cellKind ∷ c ∷ 0 ∷ 0 ∷ getD (now (initial .entry)) c 0 ∷ 0 ∷ [])) cells) ⌝ }
+{
+    let mut c: usize = 0;
+    while c < cells {
+        write_line(out, from + c, numbers(1, c, 0, 0, initial[c], 0));
+        c += 1;
+    }
+}
+
+// The numbers of a task's line.
+fn op_line(frame: usize, target: usize, op: Op) -> Line
+    ensures { λ r. ⌜ numbersIn r ≡ opLine frame target op ⌝ }
+{
+    match op {
+        Op::Take(s) => numbers(10, frame, target, s, 0, 0),
+        Op::Sum(a, b) => numbers(11, frame, target, a, b as u64, 0),
+        Op::Diff(a, b) => numbers(12, frame, target, a, b as u64, 0),
+        Op::Scale(a, factor) => numbers(13, frame, target, a, pattern::pattern(factor), 0),
+        Op::Limit(a, low, high) => numbers(
+            14,
+            frame,
+            target,
+            a,
+            pattern::pattern(low),
+            pattern::pattern(high),
+        ),
+        Op::Wind(a, law) => numbers(
+            15,
+            frame,
+            target,
+            a,
+            pattern::pattern(law.rate),
+            pattern::pattern(law.cap),
+        ),
+    }
+}
+
+fn task_line(t: Task) -> Line
+    ensures { λ r. ⌜ numbersIn r ≡ taskLine t ⌝ }
+{
+    let op = t.op;
+    op_line(t.frame, t.target, op)
+}
+
+fn write_tasks(plan: Plan, count: usize, out: &mut [u8], from: usize)
+    requires { ⌜ (count ≤ mostTasks) × (lineSize * (from + count) ≤ length (now out)) × (from + count ≤ mostLines) ⌝ }
+    ensures { λ _. ⌜ now (out .exit) ≡ placed (now (out .entry)) (lineSize * from) (joined (λ k. row widths (taskLine (taskAt plan k))) count) ⌝ }
+{
+    let mut k: usize = 0;
+    while k < count {
+        let t = plan.tasks[k];
+        write_line(out, from + k, task_line(t));
+        k += 1;
+    }
+}
+
+fn count_votes(voted: &[bool; Plan::VOTES]) -> usize
+    ensures { λ r. ⌜ (r ≡ howMany (λ e. getD (now (voted .entry)) e false) (mostFrames * mostCells)) × (r ≤ mostFrames * mostCells) ⌝ }
+{
+    let mut count: usize = 0;
+    let mut e: usize = 0;
+    while e < Plan::VOTES {
+        if voted[e] {
+            count += 1;
+        }
+        e += 1;
+    }
+    count
+}
+
+// The number of the line after the votes is given.
+fn write_votes(voted: &[bool; Plan::VOTES], out: &mut [u8], from: usize) -> usize
+    requires { ⌜ (lineSize * (from + howMany (λ e. getD (now voted) e false) (mostFrames * mostCells)) ≤ length (now out)) × (from + howMany (λ e. getD (now voted) e false) (mostFrames * mostCells) ≤ mostLines) ⌝ }
+    ensures { λ r. ⌜ (r ≡ from + howMany (λ e. getD (now (voted .entry)) e false) (mostFrames * mostCells)) × (now (out .exit) ≡ placed (now (out .entry)) (lineSize * from) (joined (λ e. cond (getD (now (voted .entry)) e false) (row widths (voteLine (voteFrame e) (voteCell e))) []) (mostFrames * mostCells))) ⌝ }
+{
+    let mut i = from;
+    let mut e: usize = 0;
+    while e < Plan::VOTES {
+        if voted[e] {
+            write_line(
+                out,
+                i,
+                numbers(20, e / Plan::CELLS, e % Plan::CELLS, 0, 0, 0),
+            );
+            i += 1;
+        }
+        e += 1;
+    }
+    i
+}
+
+fn write_actuators(table: &[usize; Plan::ACTUATORS], count: usize, out: &mut [u8], from: usize)
+    requires { ⌜ (count ≤ mostActuators) × (lineSize * (from + count) ≤ length (now out)) × (from + count ≤ mostLines) ⌝ }
+    ensures { λ _. ⌜ now (out .exit) ≡ placed (now (out .entry)) (lineSize * from) (joined (λ i. row widths (actuatorKind ∷ i ∷ getD (now (table .entry)) i 0 ∷ 0 ∷ 0 ∷ 0 ∷ [])) count) ⌝ }
+{
+    let mut i: usize = 0;
+    while i < count {
+        write_line(out, from + i, numbers(30, i, table[i], 0, 0, 0));
+        i += 1;
+    }
+}
+
+pub fn text_size(plan: Plan) -> usize
+    requires { ⌜ accepted plan ≡ true ⌝ }
+    ensures { λ r. ⌜ r ≡ length (planText plan) ⌝ }
+{
+    let cells = plan.cells;
+    let tasks = plan.task_count;
+    let actuators = plan.actuators;
+    let votes = count_votes(&plan.voted);
+    57 * (1 + cells + tasks + votes + actuators)
+}
+
+pub fn write(plan: Plan, out: &mut [u8])
+    requires { ⌜ (accepted plan ≡ true) × (length (planText plan) ≤ length (now out)) ⌝ }
+    ensures { λ _. ⌜ now (out .exit) ≡ planText plan ++ drop (length (planText plan)) (now (out .entry)) ⌝ }
+{
+    let cells = plan.cells;
+    let tasks = plan.task_count;
+    let actuators = plan.actuators;
+    write_line(
+        out,
+        0,
+        numbers(
+            0,
+            plan.nodes,
+            plan.frames,
+            cells,
+            plan.sensors as u64,
+            actuators as u64,
+        ),
+    );
+    write_cells(&plan.initial, cells, out, 1);
+    write_tasks(plan, tasks, out, 1 + cells);
+    let next = write_votes(&plan.voted, out, 1 + cells + tasks);
+    write_actuators(&plan.actuator_cell, actuators, out, next);
+}

@@ -1,0 +1,12 @@
+use mathlib.Core.Path.{sym, ap, _∙_}
+use Rattle.recovery.specs.Walk.{afterTask}
+use borrow.Author.Needs.{needs}
+use Rattle.recovery.proofs.step.put_known.Statement.{statement}
+use Rattle.recovery.proofs.step.put_known.Tie as tie
+
+returns : tie.Need-returns
+unfolding afterTask
+returns c = rw (c .read-word .ensures)
+
+pub put-known-spec : {M : Type 1} → statement M
+put-known-spec = tie.close (tie.spec (λ c κs. search needs) (λ c. search needs) (λ c. search needs) returns)

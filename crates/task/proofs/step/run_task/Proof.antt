@@ -1,0 +1,10 @@
+-- `task::step::run_task` meets its contract: the value is stored in the target.
+use borrow.Author.Needs.{needs}
+use Rattle.task.proofs.step.run_task.Statement.{statement}
+use Rattle.task.proofs.step.run_task.Tie as tie
+
+returns : tie.Need-returns
+returns c = cc
+
+pub run-task-spec : {M : Type 1} → statement M
+run-task-spec = tie.close (tie.spec (λ c κs. search needs) (λ c. search needs) (λ c. search needs) returns)

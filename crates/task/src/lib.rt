@@ -1,0 +1,2 @@
+// What a task gives, and the task run on cells.
+pub mod step;

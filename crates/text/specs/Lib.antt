@@ -1,0 +1,4 @@
+pub mod Line
+pub mod Meant
+pub mod Refused
+pub mod Written
