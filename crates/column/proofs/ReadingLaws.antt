@@ -1,20 +1,20 @@
 -- Reading a column byte by byte: what each test of the code says of the definitions.
 use mathlib.Core.Path.{_≡_, refl, sym, ap, _∙_}
-use mathlib.Core.Bool.{true, false, and-false}
+use mathlib.Core.Bool.{Bool, true, false, _&&_, and-false}
 use mathlib.Core.List.{List, []}
 use mathlib.Core.Option.{none, some}
 use Prim.Native.Nat.{ℕ, zero, suc, _+_, _-_, _*_, _^_, _<_, _≤_}
 use native.Mathlib.Numerals.{add-one}
-use native.Mathlib.Nat.{le-trans, min-le-left}
+use native.Mathlib.Nat.{add-zero, add-suc, le-trans, min-le-left}
 use native.Mathlib.Omega.{arith}
 use lib.ListN.{length, getD, take, drop, length-take, drop-of-length-le}
 use lib.Seq.{take-all, take-length, take-add, drop-at, length-take-le, slice, slice-cons}
 use lib.Dec.{leb, eqb}
 use borrow.Author.Tests.{eq-eqb, ne-eqb, le-leb, lt-leb, lt-ltb, le-ltb, eqb-true, eqb-false}
 use Rattle.array.specs.Index.{allBelow}
-use Rattle.array.proofs.TestLaws.{split, and-false-right}
+use Rattle.array.proofs.TestLaws.{split, and-left, and-right, and-false-right}
 use Rattle.array.proofs.IndexLaws.{allBelow-more, allBelow-fails}
-use Rattle.column.specs.Column.{dropBlanks, isDigit, decimal, wellFormed, numeralOf}
+use Rattle.column.specs.Column.{dropBlanks, isDigit, decimal, wellFormed, numeralOf, numberOf}
 
 -- ---- the blanks
 
@@ -28,6 +28,36 @@ module _ (s : List ℕ) (i t : ℕ) (h : i < t) (l : t ≤ length s) where
   pub blanks-stop : (getD s i 0 ≡ 32 → ⊥) → dropBlanks (slice i t s) ≡ slice i t s
   unfolding dropBlanks
   blanks-stop e = ap dropBlanks (slice-cons i t s 0 h l) ∙ rw (ne-eqb (getD s i 0) 32 e) (sym (slice-cons i t s 0 h l))
+
+-- n blanks are passed over
+pub blanks-skip-all :
+    (s : List ℕ) (i t n : ℕ) →
+    i + n ≤ t →
+    t ≤ length s →
+    allBelow (λ k. eqb (getD s (i + k) 0) 32) n ≡ true →
+    dropBlanks (slice i t s) ≡ dropBlanks (slice (i + n) t s)
+unfolding allBelow
+blanks-skip-all s i t zero h l a = rw (add-zero i)
+blanks-skip-all s i t (suc n) h l a =
+    let e = eqb-true (getD s (i + n) 0) 32 (and-right (allBelow (λ k. eqb (getD s (i + k) 0) 32) n) _ a) in
+    blanks-skip-all s i t n (omega arith) l (and-left _ _ a) ∙ blanks-skip s (i + n) t (omega arith) l e ∙ rw (add-one (i + n), add-suc i n)
+
+-- a column that starts with two times eight blanks shows what its rest shows
+pub number-skip :
+    (s : List ℕ) (f t : ℕ) {i : ℕ} {a b : Bool} →
+    f + 16 ≤ t →
+    t ≤ length s →
+    a ≡ allBelow (λ k. eqb (getD s (f + k) 0) 32) 8 →
+    b ≡ allBelow (λ k. eqb (getD s (f + 8 + k) 0) 32) 8 →
+    (a && b) ≡ true →
+    i ≡ f + 16 →
+    numberOf (slice i t s) ≡ numberOf (slice f t s)
+unfolding numberOf
+number-skip s f t {i} {a} {b} h l p q e r =
+    let g : i ≡ f + 8 + 8 = omega arith in
+    let x = blanks-skip-all s f t 8 (omega arith) l (sym p ∙ and-left a b e) in
+    let y = blanks-skip-all s (f + 8) t 8 (omega arith) l (sym q ∙ and-right a b e) in
+    ap numeralOf (sym (x ∙ y ∙ ap (λ (k : ℕ). dropBlanks (slice k t s)) (sym g)))
 
 -- of a part that reaches past the list's end only what lies in the list counts
 pub slice-past : (s : List ℕ) (f t : ℕ) → length s ≤ t → slice f t s ≡ slice f (length s) s

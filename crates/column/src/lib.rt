@@ -5,6 +5,8 @@ ghost use lib.Seq.{slice};
 ghost use Rattle.column.specs.Column.{dropBlanks, numeralOf, numberOf, mark, column};
 ghost use Rattle.column.specs.Answers.{shown};
 
+pub mod step;
+
 // What a column shows.
 pub enum Number {
     Value(u64),

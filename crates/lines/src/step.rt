@@ -49,7 +49,7 @@ fn read_patterns(line: &[u8], count: usize, patterns: &mut [u64; Plan::SENSORS])
     let mut k: usize = 0;
     while k < count {
         let at = 8 + 20 * k;
-        let Number::Value(v) = column::read(line, at, at + 20) else {
+        let Number::Value(v) = column::step::read_wide(line, at, at + 20) else {
             return false;
         };
         patterns[k] = v;

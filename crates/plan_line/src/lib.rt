@@ -47,10 +47,10 @@ pub fn read_line(line: &[u8]) -> LineRead
     let Number::Value(fourth) = column::read(line, 12, 16) else {
         return LineRead::Malformed;
     };
-    let Number::Value(fifth) = column::read(line, 16, 36) else {
+    let Number::Value(fifth) = column::step::read_wide(line, 16, 36) else {
         return LineRead::Malformed;
     };
-    let Number::Value(sixth) = column::read(line, 36, 56) else {
+    let Number::Value(sixth) = column::step::read_wide(line, 36, 56) else {
         return LineRead::Malformed;
     };
     if line[56] != 10 {

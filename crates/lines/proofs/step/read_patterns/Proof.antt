@@ -22,7 +22,7 @@ returns : tie.Need-returns Inv-loop μ-loop
 returns c =
     let a = c .before .before .before .before .before .before .before .args in
     let l = c .before .before .before .before .loop in
-    front-bad (a .line .now) (a .count) (l .k) (search needs) (l .patterns) (l .inv .2) (malformed-read (c .before .before .read .ensures) (c .enum-told .given .1))
+    front-bad (a .line .now) (a .count) (l .k) (search needs) (l .patterns) (l .inv .2) (malformed-read (c .before .before .read-wide .ensures) (c .enum-told .given .1))
 
 loop-again : tie.Need-loop-again Inv-loop μ-loop
 loop-again c =
@@ -31,7 +31,7 @@ loop-again c =
     let b : l .k < length (l .patterns) = search needs in (
       search needs,
       search needs,
-      front-next (a .line .now) (a .count) (l .k) (search needs) (l .patterns) (l .inv .2) (c .before .v .given .0 .0) b (value-read (c .before .before .before .read .ensures) (c .before .v .given .1)),
+      front-next (a .line .now) (a .count) (l .k) (search needs) (l .patterns) (l .inv .2) (c .before .v .given .0 .0) b (value-read (c .before .before .before .read-wide .ensures) (c .before .v .given .1)),
     )
 
 returns-2 : tie.Need-returns-2 Inv-loop μ-loop
