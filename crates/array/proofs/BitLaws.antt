@@ -1,12 +1,12 @@
 -- Laws of bits.
-use mathlib.Core.Path.{_≡_, refl, sym, ap, _∙_, subst}
-use mathlib.Core.Bool.{Bool, true, false, _&&_, _||_}
-use Prim.Native.Nat.{ℕ, zero, suc, _+_, _-_, _*_, _/_, _%_, _^_, _≤_, _<_, min, max}
+use mathlib.Core.Path.{_≡_, refl, sym, ap, _∙_}
+use mathlib.Core.Bool.{true, false, _&&_, _||_}
+use Prim.Native.Nat.{ℕ, zero, suc, _-_, _*_, _/_, _%_, _^_, _≤_, _<_}
 use native.Mathlib.Omega.{arith}
-use native.Mathlib.Nat.{pow-succ', pow-zero, one-le-pow, two-pow-succ, zero-div, div-one, div-div-eq-div-mul, mod-lt, div-lt-iff-lt-mul}
-use lib.Dec.{eqb, ltb, leb, lit<, leb·suc-suc}
+use native.Mathlib.Nat.{pow-succ', pow-zero, one-le-pow, two-pow-succ, zero-div, div-one, div-div-eq-div-mul, div-lt-iff-lt-mul}
+use lib.Dec.{eqb, ltb, lit<, leb·suc-suc}
 use lib.Bits.{bitAnd, bitOr, and-shr, or-shr, and-mod, or-mod}
-use borrow.Author.Tests.{eqb-true, eqb-false, eq-eqb, ne-eqb, lt-ltb, le-ltb, ltb-true, ltb-false}
+use borrow.Author.Tests.{eq-eqb, ne-eqb, lt-ltb, le-ltb, ltb-true, ltb-false}
 use Rattle.array.specs.Bit.{bit}
 use Rattle.array.proofs.TestLaws.{split}
 

@@ -1,6 +1,6 @@
 -- Laws of `allBelow` and `howMany`: nothing yet, one more, each place after.
 use mathlib.Core.Path.{_≡_, refl, sym, ap, subst}
-use mathlib.Core.Bool.{Bool, true, false, cond, _&&_}
+use mathlib.Core.Bool.{Bool, true, false, cond}
 use Prim.Native.Nat.{ℕ, zero, suc, _+_, _≤_, _<_}
 use native.Mathlib.Omega.{arith}
 use native.Mathlib.Nat.{le-refl, not-suc-le-zero}
@@ -8,7 +8,7 @@ use native.Mathlib.Numerals.{add-one}
 use lib.Dec.{eqb}
 use borrow.Author.Tests.{eqb-true, eqb-false}
 use Rattle.array.specs.Index.{howMany, allBelow}
-use Rattle.array.proofs.TestLaws.{split, and-left, and-right, and-both, and-false-left, and-false-right, clash}
+use Rattle.array.proofs.TestLaws.{split, and-left, and-right, and-both, clash}
 
 -- ---- all pass
 

@@ -4,7 +4,6 @@ use mathlib.Core.Bool.{Bool, true, false}
 use mathlib.Core.List.{List, [], _∷_, map}
 use Prim.Native.Nat.{ℕ, zero, suc, _+_, _<_}
 use native.Mathlib.Omega.{arith}
-use native.Mathlib.Nat.{not-suc-le-zero}
 use lib.ListN.{length, getD, set, length-map}
 use Rattle.array.specs.Index.{fill, allBelow, howMany}
 use Rattle.array.proofs.IndexLaws.{howMany-hit, howMany-miss}

@@ -53,3 +53,11 @@ placed-more s at t u l =
 pub placed-next :
     (s : List ℕ) (at : ℕ) (t xs u : List ℕ) (a : ℕ) → xs ≡ placed s at t → a ≡ at + length t → at ≤ length s → placed xs a u ≡ placed s at (t ++ u)
 placed-next s at t xs u a h e l = rw (h, e) (placed-more s at t u l)
+
+-- ---- a part that is lent and comes back
+
+pub part-back : (s t part : List ℕ) (at k : ℕ) → part ≡ t → length t ≡ k → take at s ++ (part ++ drop k (drop at s)) ≡ placed s at t
+part-back s t part at k e l = rw (drop-drop k at s, e, ← l)
+
+pub part-length : (s : List ℕ) (at k e : ℕ) → k ≡ e → at + k ≤ length s → length (take k (drop at s)) ≡ e
+part-length s at k e z l = length-take-le k (drop at s) (rw length-drop (omega arith)) ∙ z

@@ -6,10 +6,10 @@ use Prim.Native.Nat.{ℕ, zero, suc, _+_, _*_, _≤_, _<_}
 use native.Mathlib.Omega.{arith}
 use native.Mathlib.Nat.{not-suc-le-zero, zero-mul, suc-mul}
 use native.Mathlib.Numerals.{add-one}
-use lib.Dec.{eqb}
-use lib.ListN.{length, getD, set, length-set, length-append}
-use lib.Seq.{getD-set-same, getD-set-other, set-getD, getD-at}
-use borrow.Author.Tests.{eqb-true, eqb-false}
+use lib.Dec.{eqb, ltb}
+use lib.ListN.{length, getD, set, length-set, length-append, List·getD-append}
+use lib.Seq.{ext-getD, getD-set-same, getD-set-other, set-getD, getD-at, getD-append-add}
+use borrow.Author.Tests.{eqb-true, eqb-false, ltb-true, ltb-false}
 use Rattle.array.specs.Index.{fill, joined, from}
 use Rattle.array.proofs.TestLaws.{split}
 
@@ -120,11 +120,87 @@ module _ {A : Type 0} where
 
   -- ---- from
 
-  pub from-more : (d : A) (s : List A) (at n : ℕ) → from d s at (n + 1) ≡ from d s at n ++ (getD s (at + n) d ∷ [])
-  unfolding from
-  from-more d s at n = rw (add-one n)
-
   pub from-length : (d : A) (s : List A) (at n : ℕ) → length (from d s at n) ≡ n
   unfolding from
   from-length d s at zero = refl
   from-length d s at (suc n) = length-append (from d s at n) (getD s (at + n) d ∷ []) ∙ rw (from-length d s at n) (add-one n)
+
+-- ---- the entries of a part
+
+module _ {A : Type 0} (d : A) where
+  -- entry i of the n from a place
+  pub from-at : (s : List A) (at n i : ℕ) → i < n → getD (from d s at n) i d ≡ getD s (at + i) d
+  unfolding from
+  from-at s at zero i l = absurd (omega arith)
+  from-at s at (suc n) i l =
+      split (eqb i n)
+      (λ t. rw (eqb-true i n t) (getD-at (from d s at n) (getD s (at + n) d) [] d n (from-length d s at n)))
+      (λ t.
+      let h : i < n = omega (arith, eqb-false i n t) in
+      List·getD-append (from d s at n) (getD s (at + n) d ∷ []) d i (omega (arith, from-length d s at n)) ∙ from-at s at n i h)
+
+  pub from-same : (s t : List A) (a b n : ℕ) → ((i : ℕ) → i < n → getD s (a + i) d ≡ getD t (b + i) d) → from d s a n ≡ from d t b n
+  unfolding from
+  from-same s t a b zero e = refl
+  from-same s t a b (suc n) e = rw (from-same s t a b n (λ i l. e i (omega arith)), e n (omega arith))
+
+  -- a list of n entries is the n entries from its start
+  pub from-all : (s : List A) (n : ℕ) → length s ≡ n → from d s 0 n ≡ s
+  from-all s n e =
+      ext-getD d (from d s 0 n) s (from-length d s 0 n ∙ sym e) (λ i l. from-at s 0 n i (omega (arith, from-length d s 0 n)) ∙ ap (λ (k : ℕ). getD s k d) (let z : 0 + i ≡ i = omega arith in z))
+
+  pub from-add : (s : List A) (at m n : ℕ) → from d s at (m + n) ≡ from d s at m ++ from d s (at + m) n
+  unfolding from
+  from-add s at m zero = let z : m + 0 ≡ m = omega arith in rw z (sym (append-nil (from d s at m)))
+  from-add s at m (suc n) =
+      let y : m + suc n ≡ suc (m + n) = omega arith in
+      let z : at + (m + n) ≡ at + m + n = omega arith in
+      rw (y, from-add s at m n, z) (append-assoc (from d s at m) (from d s (at + m) n) (getD s (at + m + n) d ∷ []))
+
+  -- what a list holds at a place
+  pub from-held : {s : List A} {at : ℕ} {t : List A} (n : ℕ) → length t ≡ n → Holds s at t → from d s at n ≡ t
+  from-held {s} {at} {t} n e h =
+      ext-getD d (from d s at n) t (from-length d s at n ∙ sym e) (λ i l. let k : i < n = omega (arith, from-length d s at n) in from-at s at n i k ∙ entry i k)
+    where
+      entry : (i : ℕ) → i < n → getD s (at + i) d ≡ getD t i d
+      entry i l =
+          rw (← h .size)
+          (ap (λ (x : List A). getD x (length (h .front) + i) d) (h .whole)
+          ∙ getD-append-add (h .front) (t ++ h .back) i d
+          ∙ List·getD-append t (h .back) d i (omega arith))
+
+  -- ---- a list of n bins of one size
+
+  module _ (w : ℕ) where
+    pub bins-front : (s : List A) (n : ℕ) → joined (λ j. from d s (j * w) w) n ≡ from d s 0 (n * w)
+    unfolding joined from
+    bins-front s zero = rw (zero-mul w)
+    bins-front s (suc n) = let z : 0 + n * w ≡ n * w = omega arith in rw (bins-front s n, suc-mul n w, from-add s 0 (n * w) w, z)
+
+    pub bins-all : (s : List A) (n : ℕ) → length s ≡ n * w → s ≡ joined (λ j. from d s (j * w) w) n
+    bins-all s n e = sym (bins-front s n ∙ from-all s (n * w) e)
+
+    -- a buffer whose bins are known
+    pub bins-are : (s : List A) (n : ℕ) (f : ℕ → List A) → length s ≡ n * w → ((j : ℕ) → j < n → from d s (j * w) w ≡ f j) → s ≡ joined f n
+    bins-are s n f e h = bins-all s n e ∙ joined-same _ f n h
+
+    pub bin-of : (f : ℕ → List A) (n j : ℕ) → ((j : ℕ) → length (f j) ≡ w) → j < n → from d (joined f n) (j * w) w ≡ f j
+    bin-of f n j e l = from-held w (e j) (joined-holds f w e n j l)
+
+-- ---- filled again
+
+pub fill-again : {A : Type 0} (d : A) (f g : ℕ → A) (n : ℕ) (l : List A) → fill f n (fill g n l) ≡ fill f n l
+fill-again d f g n l =
+    ext-getD d (fill f n (fill g n l)) (fill f n l) (long ∙ sym (fill-length f n l))
+    (λ i h.
+    split (ltb i n)
+    (λ t.
+    fill-in f n (fill g n l) i d (ltb-true i n t) (omega (arith, long, fill-length g n l))
+    ∙ sym (fill-in f n l i d (ltb-true i n t) (omega (arith, long))))
+    (λ t.
+    fill-out f n (fill g n l) i d (ltb-false i n t)
+    ∙ fill-out g n l i d (ltb-false i n t)
+    ∙ sym (fill-out f n l i d (ltb-false i n t))))
+  where
+    long : length (fill f n (fill g n l)) ≡ length l
+    long = fill-length f n (fill g n l) ∙ fill-length g n l

@@ -1,8 +1,9 @@
 -- Laws of Bools and tests that proofs by cases use.
-use mathlib.Core.Path.{_≡_, refl}
-use mathlib.Core.Bool.{Bool, true, false, cond, _&&_}
-use Prim.Native.Nat.{ℕ, _≤_}
+use mathlib.Core.Path.{_≡_, refl, sym, _∙_}
+use mathlib.Core.Bool.{Bool, true, false, not, _&&_}
+use Prim.Native.Nat.{ℕ}
 use native.Mathlib.Omega.{arith}
+use borrow.Author.Tests.{not-true, not-false}
 
 -- by the two cases of a test, each with the test's equation
 pub split : {X : Type 0} (b : Bool) → (b ≡ true → X) → (b ≡ false → X) → X
@@ -29,3 +30,12 @@ and-false-left b p = rw p
 pub and-false-right : (a : Bool) {b : Bool} → b ≡ false → (a && b) ≡ false
 and-false-right true q = q
 and-false-right false q = refl
+
+-- ---- a test that the code negates
+
+module _ {t x : Bool} (e : t ≡ x) where
+  pub refused-test : not t ≡ true → x ≡ false
+  refused-test h = sym e ∙ not-true t h
+
+  pub passed-test : not t ≡ false → x ≡ true
+  passed-test h = sym e ∙ not-false t h

@@ -133,9 +133,6 @@ room-bound (w ∷ ws) [] r i = absurd r
 room-bound (w ∷ ws) (v ∷ vs) r zero = r .2
 room-bound (w ∷ ws) (v ∷ vs) r (suc i) = room-bound ws vs (r .3) i
 
-pub numbers-bound : (ws s vs : List ℕ) → numbersOf ws s ≡ some vs → (i : ℕ) → getD vs i 0 < 2 ^ 64
-numbers-bound ws s vs e = room-bound ws vs (room-of-numbers ws s vs e)
-
 -- ---- what is written is read back
 
 slice-middle : (p c r : List ℕ) (at w : ℕ) → length p ≡ at → length c ≡ w → slice at (at + w) (p ++ (c ++ r)) ≡ c

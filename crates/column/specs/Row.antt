@@ -1,5 +1,5 @@
 -- A row: numbers in columns of given widths, then a line feed (byte 10). Plan lines, run lines and listing lines are rows.
-use Prim.Native.Nat.{ℕ, suc, _+_, _^_, _<_}
+use Prim.Native.Nat.{ℕ, _+_, _^_, _<_}
 use mathlib.Core.Bool.{cond, _&&_}
 use mathlib.Core.List.{List, [], _∷_, _++_}
 use mathlib.Core.Option.{Option, none, some}

@@ -1,24 +1,23 @@
 -- Laws of the good counts and of the two counts over the nodes: one for each way through a loop's body.
-use mathlib.Core.Path.{_≡_, refl, sym, _∙_}
+use mathlib.Core.Path.{_≡_, sym, _∙_}
 use mathlib.Core.Bool.{Bool, true, false, not, cond, _&&_}
 use mathlib.Core.List.{List}
-use Prim.Native.Nat.{ℕ, _+_, _≤_, _<_, min}
+use Prim.Native.Nat.{ℕ, _+_, _^_, _≤_, _<_, min}
 use native.Mathlib.Omega.{arith}
 use lib.Dec.{eqb, leb, ltb}
 use lib.ListN.{length, getD, set}
 use borrow.Author.Tests.{eq-eqb, ne-eqb, lt-leb, le-leb, ltb-true, ltb-false}
 use Rattle.array.specs.Index.{fill, allBelow, howMany}
 use Rattle.array.specs.Bit.{bit}
-use Rattle.array.proofs.TestLaws.{split, and-false-right, and-both}
+use Rattle.array.proofs.TestLaws.{and-false-right, and-both}
 use Rattle.array.proofs.IndexLaws.{allBelow-more, allBelow-fails}
-use Rattle.array.proofs.PlacesLaws.{fill-more, fill-out}
 use Rattle.array.proofs.LoopLaws.{any-default, stored-next, stored-still, all-passed}
 use Rattle.plan.specs.declared.Plan.{Plan}
 use Rattle.plan.specs.Known.{period as periodOf}
 use Rattle.memory.specs.declared.Memory.{Memory}
 use Rattle.memory.specs.Node.{zeroMemory}
 use Rattle.system.specs.declared.System.{System}
-use Rattle.system.specs.Frame.{isWorking}
+use Rattle.system.specs.Frame.{maskOk, countsOk, isWorking}
 
 -- ---- a count
 
@@ -85,3 +84,14 @@ pub working-all :
     count ≡ howMany (isWorking p sys mask) (p .nodes)
 unfolding isWorking
 working-all p sys mask e h k = h ∙ rw (k, e)
+
+-- ---- the tests of mask and counts, as the code makes them
+
+module _ (p : Plan) (sys : System) (mask : ℕ) {period : ℕ} (e : period ≡ periodOf p) where
+  pub counts-are : {c : Bool} → c ≡ allBelow (λ i. leb (getD (sys .good) i 0) period) (p .nodes) → c ≡ countsOk p sys
+  unfolding countsOk
+  counts-are h = h ∙ rw e
+
+  pub mask-are : {m c : Bool} → m ≡ ltb mask (2 ^ p .nodes) → c ≡ allBelow (λ i. leb (getD (sys .good) i 0) period) (p .nodes) → (m && c) ≡ (maskOk p mask && countsOk p sys)
+  unfolding maskOk
+  mask-are h k = rw (h, counts-are k)

@@ -8,13 +8,12 @@ ghost use Rattle.array.specs.Index.{fill, joined, from};
 ghost use Rattle.array.specs.Word.{be};
 ghost use Rattle.array.specs.Bit.{bit};
 ghost use Rattle.plan.specs.Limits.{mostNodes, mostFrames, mostCells, mostActuators};
-ghost use Rattle.plan.specs.Accepted.{accepted};
 ghost use Rattle.memory.specs.Size.{counterSize, patternSize, cellAt};
 ghost use Rattle.memory.specs.Node.{zeroMemory, messageOf};
 ghost use Rattle.ballot.specs.Majority.{valueOf};
 ghost use Rattle.system.specs.Fault.{faultAt, faultMemory};
 ghost use Rattle.array.specs.Place.{placed};
-ghost use Rattle.exchange.specs.Mail.{Small, Counts, allFaults, patched, after, goodHolders, settled};
+ghost use Rattle.mail.specs.Mail.{Small, Counts, allFaults, patched, after, goodHolders, settled};
 use ballot::Voted;
 use memory::Memory;
 use plan::Plan;
@@ -130,7 +129,7 @@ fn memory_after(
         return fault_memory(cells, faults, i * fault_size(nodes, cells, actuators), own);
     }
     patch(nodes, cells, actuators, faults, mask, i, bins);
-    memory::step::vote_with(voted, nodes, frames, cells, own, bins)
+    vote::step::vote_with(voted, nodes, frames, cells, own, bins)
 }
 
 // Every node votes by itself.

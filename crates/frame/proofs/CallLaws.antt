@@ -1,16 +1,15 @@
 -- Laws for the proofs of the calls: what is answered, and what becomes of record and place, by the way a call goes.
-use mathlib.Core.Path.{_≡_, sym, _∙_}
-use mathlib.Core.Bool.{Bool, true, false, not, _&&_}
+use mathlib.Core.Path.{_≡_}
+use mathlib.Core.Bool.{true, false, _&&_}
 use mathlib.Core.List.{List}
-use Prim.Native.Nat.{ℕ, _^_}
-use lib.Dec.{eqb, leb, ltb}
-use lib.ListN.{length, getD}
-use borrow.Author.Tests.{eqb-true, not-true, not-false}
-use Rattle.array.specs.Index.{allBelow, howMany, fill}
+use Prim.Native.Nat.{ℕ}
+use lib.Dec.{eqb}
+use lib.ListN.{length}
+use borrow.Author.Tests.{eqb-true}
+use Rattle.array.specs.Index.{howMany, fill}
 use Rattle.array.proofs.TestLaws.{and-left, and-right}
 use Rattle.answer.specs.declared.Answer.the-variants.{Done, InvalidPlan, WrongLength, MaskOrCount}
 use Rattle.plan.specs.declared.Plan.{Plan}
-use Rattle.plan.specs.Known.{period as periodOf}
 use Rattle.plan.specs.Accepted.{accepted}
 use Rattle.memory.specs.declared.Memory.{Memory}
 use Rattle.node.specs.declared.Outcome.{Outcome}
@@ -19,17 +18,6 @@ use Rattle.system.specs.Fault.{faultsSize}
 use Rattle.system.specs.declared.System.{System}
 use Rattle.system.specs.declared.Framed.{Framed}
 use Rattle.system.specs.Frame.{memoryOf, maskOk, countsOk, lengthsOk, inTurn, frameRuns, frameAnswer, framePlace, systemAfter, placeAfter, singlePlace, singleRuns, singleAnswer, singlePlaceAfter, isWorking, workingAnswer, sameMemory, agreeingAnswer}
-
--- ---- the tests of mask and counts, as the code makes them
-
-module _ (p : Plan) (sys : System) (mask : ℕ) {period : ℕ} (e : period ≡ periodOf p) where
-  pub counts-are : {c : Bool} → c ≡ allBelow (λ i. leb (getD (sys .good) i 0) period) (p .nodes) → c ≡ countsOk p sys
-  unfolding countsOk
-  counts-are h = h ∙ rw e
-
-  pub mask-are : {m c : Bool} → m ≡ ltb mask (2 ^ p .nodes) → c ≡ allBelow (λ i. leb (getD (sys .good) i 0) period) (p .nodes) → (m && c) ≡ (maskOk p mask && countsOk p sys)
-  unfolding maskOk
-  mask-are h k = rw (h, counts-are k)
 
 -- ---- a frame
 
@@ -129,12 +117,3 @@ lengths-told p sensors faults place h =
       eqb-true _ _ (and-right (eqb sensors (p .sensors)) (eqb faults (faultsSize p)) front),
       eqb-true _ _ (and-right (eqb sensors (p .sensors) && eqb faults (faultsSize p)) (eqb place (p .actuators)) h),
     )
-
--- ---- a test that the code negates
-
-module _ {t x : Bool} (e : t ≡ x) where
-  pub refused-test : not t ≡ true → x ≡ false
-  refused-test h = sym e ∙ not-true t h
-
-  pub passed-test : not t ≡ false → x ≡ true
-  passed-test h = sym e ∙ not-false t h

@@ -4,7 +4,7 @@ use mathlib.Core.List.{List, _++_}
 use mathlib.Core.Option.{Option, none, some, Option·getD}
 use Prim.Native.Nat.{ℕ, _+_, min}
 use lib.Dec.{eqb, leb}
-use lib.ListN.{length, take, drop}
+use lib.ListN.{length, drop}
 use Rattle.answer.specs.declared.Answer.{Answer}
 use Rattle.answer.specs.declared.Answer.the-variants.{Done, InvalidPlan, WrongLength, MaskOrCount, RunLine}
 use Rattle.answer.specs.Refusal.{numberOf}
@@ -20,7 +20,7 @@ use Rattle.system.specs.Frame.{countsOk}
 use Rattle.lines.specs.declared.Run.{Run}
 use Rattle.listing.specs.declared.Started.{Started}
 use Rattle.lines.specs.declared.Printed.{Printed}
-use Rattle.lines.specs.Line.{runLineSize, printedSize, refusalLine, refusalSize}
+use Rattle.lines.specs.Line.{printedSize, refusalLine, refusalSize}
 use Rattle.lines.specs.Listing.{mostLines, isSome, frameLine}
 use Rattle.lines.specs.Run.{runAfter, nextNumbers}
 

@@ -100,7 +100,7 @@ fn node_often(plan: Plan, times: u64, sensors: &mut [u64], bins: &mut [u8], out:
         sensors[0] = k;
         let next = memory::step::compute(plan, m, sensors);
         memory::step::message_with(&plan.voted, frames, cells, next, out);
-        m = memory::step::vote_with(&plan.voted, nodes, frames, cells, next, bins);
+        m = vote::step::vote_with(&plan.voted, nodes, frames, cells, next, bins);
         k += 1;
     }
     m.cells[0] % 1000

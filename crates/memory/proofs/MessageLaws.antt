@@ -1,6 +1,6 @@
 -- Laws of messages: their length, and that a mailbox gives back each sender's counter and sent cells.
 use mathlib.Core.Path.{_≡_, subst, _∙_}
-use mathlib.Core.Bool.{true, false}
+use mathlib.Core.Bool.{true}
 use mathlib.Core.List.{List}
 use Prim.Native.Nat.{ℕ, _+_, _*_, _^_, _<_}
 use native.Mathlib.Omega.{arith}
@@ -23,10 +23,6 @@ module _ (p : Plan) (m : Memory) (c : ℕ) where
   pub sentCell-voted : votedIn p (before p (m .counter)) c ≡ true → sentCell p m c ≡ getD (m .cells) c 0
   unfolding sentCell
   sentCell-voted v = rw v
-
-  pub sentCell-other : votedIn p (before p (m .counter)) c ≡ false → sentCell p m c ≡ 0
-  unfolding sentCell
-  sentCell-other v = rw v
 
   pub sentCell-bound : getD (m .cells) c 0 < 2 ^ 64 → sentCell p m c < 2 ^ 64
   unfolding sentCell

@@ -12,8 +12,7 @@ use Rattle.plan.specs.Limits.{mostCells}
 use Rattle.plan.specs.Known.{knowTasks}
 use Rattle.plan.proofs.AcceptedLaws.{Shape}
 use Rattle.memory.specs.declared.Memory.{Memory}
-use Rattle.task.specs.Task.{runTasks}
-use Rattle.memory.specs.Node.{poweredOn, computed, setpoint}
+use Rattle.memory.specs.Node.{poweredOn, computed}
 use Rattle.task.proofs.TaskLaws.{Agree, Bounded, runTasks-length, runTasks-past, runTasks-bounded, runTasks-agree}
 
 pub memory-same :
@@ -85,13 +84,3 @@ pub computed-agree :
 unfolding computed
 computed-agree p sensors m s ks e size same =
     rw e (runTasks-agree p (s .counter % p .frames) sensors (p .«task_count») ks (m .cells) (s .cells) size same)
-
--- ---- setpoints
-
--- memories with the same cells below C give the same setpoints
-pub setpoint-same :
-    (p : Plan) → Shape p → (m s : Memory) →
-    ((c : ℕ) → c < p .cells → getD (m .cells) c 0 ≡ getD (s .cells) c 0) →
-    (i : ℕ) → i < p .actuators → setpoint p m i ≡ setpoint p s i
-unfolding setpoint
-setpoint-same p shape m s same i l = same (getD (p .«actuator_cell») i 0) (shape .actuator i l)

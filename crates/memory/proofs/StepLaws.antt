@@ -15,7 +15,7 @@ use Rattle.array.proofs.TestLaws.{split}
 use Rattle.array.specs.Index.{fill, joined}
 use Rattle.array.specs.Word.{be, bytes}
 use Rattle.array.proofs.LoopLaws.{stored-next}
-use Rattle.array.proofs.PlacesLaws.{fill-out, fill-more, fill-kept, joined-none, joined-more}
+use Rattle.array.proofs.PlacesLaws.{fill-out, fill-kept, joined-none, joined-more}
 use Rattle.array.proofs.WordLaws.{bytes-length}
 use Rattle.plan.specs.declared.Plan.{Plan}
 use Rattle.plan.specs.Limits.{mostNodes, mostCells}

@@ -1,10 +1,9 @@
 -- Document 01, 'Memory and frame': one node's memory through power-on, compute, broadcast, vote and sync.
-use mathlib.Core.Bool.{Bool, true, false, cond}
-use mathlib.Core.List.{List, [], _∷_, _++_}
-use mathlib.Core.Option.{Option, none, some, Option·getD}
-use Prim.Native.Nat.{ℕ, _+_, _-_, _*_, _%_}
+use mathlib.Core.Bool.{cond}
+use mathlib.Core.List.{List, _++_}
+use mathlib.Core.Option.{Option·getD}
+use Prim.Native.Nat.{ℕ, _+_, _-_, _%_}
 use lib.ListN.{getD, replicate}
-use lib.Dec.{ltb}
 use Rattle.array.specs.Index.{fill, joined}
 use Rattle.array.specs.Word.{be, bytes}
 use Rattle.plan.specs.declared.Plan.{Plan}

@@ -1,6 +1,6 @@
 -- What the calls on one node answer, refused or not: 7 before 8; a memory handed in, and a place lent, stay as they were beside a refusal,
 -- and a new memory is all zero.
-use mathlib.Core.Bool.{Bool, cond, _&&_}
+use mathlib.Core.Bool.{cond, _&&_}
 use mathlib.Core.List.{List}
 use Prim.Native.Nat.{ℕ}
 use lib.Dec.{eqb}

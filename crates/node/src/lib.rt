@@ -83,7 +83,7 @@ pub fn vote(plan: Plan, memory: Memory, mailbox: &[u8]) -> Outcome
             memory,
         };
     }
-    let next = memory::step::vote(plan, memory, mailbox);
+    let next = vote::step::vote(plan, memory, mailbox);
     Outcome {
         answer: Answer::Done,
         memory: next,

@@ -11,8 +11,7 @@ ghost use Rattle.memory.specs.Size.{patternSize};
 ghost use Rattle.memory.specs.Node.{zeroMemory, setpoint};
 ghost use Rattle.system.specs.Fault.{faultSetpoint};
 ghost use Rattle.system.specs.Plane.{plane as planeOf};
-ghost use Rattle.exchange.specs.Mail.{Small, Counts, allFaults};
-use ballot::Voted;
+ghost use Rattle.mail.specs.Mail.{Small, Counts, allFaults};
 use memory::Memory;
 use plan::Plan;
 use system::System;
@@ -75,36 +74,6 @@ pub fn put_table(
     table
 }
 
-// The value that most of the n put out; of tied ones that of the lowest holder. By counting the holders of each:
-fn most_held(values: &[u64; System::NODES], n: usize) -> u64
-    requires { ⌜ (0 < n) × (n ≤ mostNodes) ⌝ }
-    ensures { λ r. ⌜ r ≡ planeOf (λ j. getD (now (values .entry)) j 0) n ⌝ }
-{
-    let mut best: usize = 0;
-    let mut most = ballot::step::holders(values, n, values[0]);
-    let mut k: usize = 1;
-    while k < n {
-        let held = ballot::step::holders(values, n, values[k]);
-        if most < held {
-            best = k;
-            most = held;
-        }
-        k += 1;
-    }
-    values[best]
-}
-
-// and where more than half put out one value, by that.
-pub fn plane(values: &[u64; System::NODES], n: usize) -> u64
-    requires { ⌜ (0 < n) × (n ≤ mostNodes) ⌝ }
-    ensures { λ r. ⌜ r ≡ planeOf (λ j. getD (now (values .entry)) j 0) n ⌝ }
-{
-    let Voted::Value(x) = ballot::step::majority(values, n, n) else {
-        return most_held(values, n);
-    };
-    x
-}
-
 // What the nodes put out for one actuator.
 fn column(table: &[u64; 56], a: usize, n: usize) -> [u64; System::NODES]
     requires { ⌜ (a < mostActuators) × (n ≤ mostNodes) ⌝ }
@@ -127,7 +96,7 @@ pub fn hand_on(table: &[u64; 56], n: usize, place: &mut [u64])
     let mut a: usize = 0;
     while a < actuators {
         let values = column(table, a, n);
-        place[a] = plane(&values, n);
+        place[a] = plane::step::plane(&values, n);
         a += 1;
     }
 }

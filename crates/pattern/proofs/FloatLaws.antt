@@ -2,11 +2,11 @@
 use Prim.Native.Nat.{ℕ, _≤_, _<_, _*_, _+_, zero-le}
 use native.Mathlib.Nat.{eq-or-lt-of-le, le-refl}
 use native.Mathlib.Omega.{arith}
-use mathlib.Core.Path.{_≡_, refl, sym, subst, _∙_}
+use mathlib.Core.Path.{_≡_, refl, sym, subst}
 use mathlib.Core.Bool.{Bool, true, false, not, _||_, _&&_}
 use mathlib.Core.Logic.{⊎-elim}
 use lib.Dec.{T, ltb, eqb, lt→ltb}
-use lib.Ieee.{Float, nan, inf, fin, isNan, lt, eq, le, ne, below, level, up, down}
+use lib.Ieee.{Float, nan, inf, fin, isNan, lt, le, ne, below, level, up, down}
 use borrow.Author.Tests.{ltb-false, le-ltb, eq-eqb}
 
 -- a test that is true or false, as a fact

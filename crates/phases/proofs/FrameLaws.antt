@@ -5,42 +5,29 @@ use mathlib.Core.List.{List, _++_}
 use Prim.Native.Nat.{ℕ, _+_, _*_, _≤_, _<_, min}
 use native.Mathlib.Omega.{arith}
 use lib.ListN.{length, getD, take, length-append}
-use lib.Dec.{ltb}
-use lib.Seq.{ext-getD, take-at}
-use borrow.Author.Tests.{ltb-true, ltb-false}
+use lib.Seq.{take-at}
 use Rattle.array.specs.Index.{fill, joined, from}
 use Rattle.array.specs.Bit.{bit}
-use Rattle.array.specs.Word.{be}
 use Rattle.array.proofs.TestLaws.{split}
-use Rattle.array.proofs.PlacesLaws.{fill-length, fill-in, fill-out, fill-same, joined-same, joined-length}
+use Rattle.array.proofs.PlacesLaws.{fill-in, fill-same, fill-again, joined-same, joined-length, bin-of}
 use Rattle.plan.specs.declared.Plan.{Plan}
 use Rattle.plan.specs.Limits.{mostNodes, mostActuators}
 use Rattle.plan.specs.Known.{period as periodOf}
 use Rattle.plan.specs.Accepted.{accepted}
-use Rattle.plan.proofs.AcceptedLaws.{Shape, shape-of-accepted}
-use Rattle.plan.proofs.PeriodLaws.{period-bound}
-use Rattle.recovery.proofs.WalkedLaws.{bound-small}
+use Rattle.plan.proofs.AcceptedLaws.{shape-of-accepted}
 use Rattle.memory.specs.declared.Memory.{Memory}
-use Rattle.memory.specs.Size.{counterSize, patternSize, cellAt, binSize, binAt, mailboxSize}
+use Rattle.memory.specs.Size.{binSize, binAt, mailboxSize}
 use Rattle.memory.specs.Node.{zeroMemory, computed, messageOf, setpoint}
-use Rattle.memory.proofs.NodeLaws.{computed-length, computed-past}
 use Rattle.memory.proofs.MessageLaws.{message-length}
 use Rattle.system.specs.declared.System.{System}
-use Rattle.system.specs.Fault.{faultAt, faultMemory, faultSetpoint}
+use Rattle.system.specs.Fault.{faultMemory, faultSetpoint}
 use Rattle.system.specs.Plane.{plane}
 use Rattle.system.specs.Frame.{computedBy, heard, mailboxOf, memoryAfter, putOut, goodAfter, systemAfter, placeAfter}
-use Rattle.exchange.specs.Mail.{patched, after}
-use Rattle.outputs.proofs.OutputLaws.{plane-same}
-use Rattle.exchange.proofs.SizeLaws.{block-small}
-use Rattle.exchange.proofs.MailLaws.{bin-of}
+use Rattle.mail.specs.Mail.{patched, after}
+use Rattle.mail.proofs.MailLaws.{fault-computed}
+use Rattle.plane.proofs.HeldLaws.{plane-same}
 
 -- ---- sizes
-
-pub period-small : (p : Plan) → accepted p ≡ true → {period : ℕ} → period ≡ periodOf p → period < 65536
-period-small p a e = let s = shape-of-accepted p a in omega (arith, period-bound p, bound-small p s)
-
-pub box-small : (p : Plan) → accepted p ≡ true → {size : ℕ} → size ≡ cellAt (p .cells) → p .nodes * size ≤ 1806
-box-small p a e = let s = shape-of-accepted p a in rw e (block-small (p .nodes) (p .cells) (p .actuators) (s .nodes-high) (s .cells-le) (s .actuators-le))
 
 pub messages-length : (p : Plan) (g : ℕ → Memory) {box : List ℕ} → box ≡ joined (λ j. messageOf p (g j)) (p .nodes) → length box ≡ mailboxSize p
 messages-length p g e = ap length e ∙ joined-length (λ j. messageOf p (g j)) (binSize p) (λ j. message-length p (g j)) (p .nodes)
@@ -59,48 +46,6 @@ pub after-front :
     memories ≡ fill (λ i. after p faults mask seen i (getD own i zeroMemory)) (p .nodes) own →
     memories ≡ fill (λ i. after p faults mask box i (getD own i zeroMemory)) (p .nodes) own
 after-front p mask faults own memories e h = h ∙ rw e
-
--- ---- what a fault leaves does not hang on the tasks that ran before it
-
-pub fill-again : {A : Type 0} (d : A) (f g : ℕ → A) (n : ℕ) (l : List A) → fill f n (fill g n l) ≡ fill f n l
-fill-again d f g n l =
-    ext-getD d (fill f n (fill g n l)) (fill f n l) (long ∙ sym (fill-length f n l))
-    (λ i h.
-    split (ltb i n)
-    (λ t.
-    fill-in f n (fill g n l) i d (ltb-true i n t) (omega (arith, long, fill-length g n l))
-    ∙ sym (fill-in f n l i d (ltb-true i n t) (omega (arith, long))))
-    (λ t.
-    fill-out f n (fill g n l) i d (ltb-false i n t)
-    ∙ fill-out g n l i d (ltb-false i n t)
-    ∙ sym (fill-out f n l i d (ltb-false i n t))))
-  where
-    long : length (fill f n (fill g n l)) ≡ length l
-    long = fill-length f n (fill g n l) ∙ fill-length g n l
-
-pub fault-computed : (p : Plan) → Shape p → (faults sensors : List ℕ) (i : ℕ) (m : Memory) → faultMemory p faults i (computed p sensors m) ≡ faultMemory p faults i m
-unfolding faultMemory
-fault-computed p s faults sensors i m = λ k. record { counter = be counterSize faults (faultAt p i); cells = cells k }
-  where
-    read : ℕ → ℕ
-    read c = be patternSize faults (faultAt p i + cellAt c)
-
-    long : length (fill read (p .cells) (computed p sensors m .cells)) ≡ length (m .cells)
-    long = fill-length read (p .cells) (computed p sensors m .cells) ∙ computed-length p sensors m
-
-    cells : fill read (p .cells) (computed p sensors m .cells) ≡ fill read (p .cells) (m .cells)
-    cells =
-        ext-getD 0 (fill read (p .cells) (computed p sensors m .cells)) (fill read (p .cells) (m .cells))
-        (long ∙ sym (fill-length read (p .cells) (m .cells)))
-        (λ c h.
-        split (ltb c (p .cells))
-        (λ t.
-        fill-in read (p .cells) (computed p sensors m .cells) c 0 (ltb-true c (p .cells) t) (omega (arith, long, computed-length p sensors m))
-        ∙ sym (fill-in read (p .cells) (m .cells) c 0 (ltb-true c (p .cells) t) (omega (arith, long))))
-        (λ t.
-        fill-out read (p .cells) (computed p sensors m .cells) c 0 (ltb-false c (p .cells) t)
-        ∙ computed-past p sensors m s c (ltb-false c (p .cells) t)
-        ∙ sym (fill-out read (p .cells) (m .cells) c 0 (ltb-false c (p .cells) t))))
 
 -- ---- the frame
 

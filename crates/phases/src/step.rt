@@ -1,7 +1,6 @@
 // A frame of the whole system, for callers that know the plan to be accepted, its period, the mask and the lengths to be right.
 ghost use mathlib.Core.Path.{_≡_};
 ghost use mathlib.Core.Bool.{true};
-ghost use mathlib.Core.Logic.{_⊎_};
 ghost use lib.ListN.{length, getD};
 ghost use Rattle.array.specs.Index.{fill};
 ghost use Rattle.plan.specs.Known.{period as periodOf};
@@ -15,13 +14,6 @@ use system::System;
 
 // The longest mailbox: 7 bins of 2 + 8 × 32 bytes.
 const MAILBOX: usize = System::NODES * (2 + 8 * System::CELLS);
-
-// Where the tasks of frame g may begin: after `skipped`, which are not of frame `last`, where that is g.
-pub fn begin(last: usize, skipped: usize, g: usize) -> usize
-    ensures { λ r. ⌜ (r ≡ 0) ⊎ ((g ≡ last) × (r ≡ skipped)) ⌝ }
-{
-    if g == last { skipped } else { 0 }
-}
 
 // Every node after its tasks. They stand by frame, so a node in the frame of the one before it begins where that one did.
 fn compute_all(
@@ -43,7 +35,7 @@ fn compute_all(
         let m = all[j];
         let g = m.counter as usize % frames;
         let mut cells = m.cells;
-        skipped = begin(last, skipped, g);
+        skipped = task::step::begin(last, skipped, g);
         last = g;
         let mut k = skipped;
         while k < count {

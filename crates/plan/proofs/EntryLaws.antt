@@ -16,30 +16,16 @@ use denote.Plain.{UInt}
 use denote.Shadow.{shadow}
 use denote.Laws.{Is}
 use denote.Array.{each}
-use borrow.Author.Tests.{lt-ltb, le-ltb, le-leb, eqb-true, eqb-false, eq-eqb, ne-eqb, not-true, not-false}
+use borrow.Author.Tests.{lt-ltb, le-ltb, le-leb, eq-eqb, ne-eqb, not-true, not-false}
 use Rattle.array.specs.Index.{allBelow}
 use Rattle.array.proofs.IndexLaws.{allBelow-at, allBelow-all}
-use Rattle.array.proofs.TestLaws.{split, and-right, and-both}
+use Rattle.array.proofs.TestLaws.{and-both}
 use Rattle.plan.specs.declared.Op.{Op}
 use Rattle.plan.specs.declared.Op.the-variants.{Take, Sum, Diff, Scale, Limit, Wind}
 use Rattle.plan.specs.declared.Task.{Task}
 use Rattle.plan.specs.declared.Plan.{Plan}
-use Rattle.plan.specs.Known.{unusedTask, taskAt, votedIn, period}
-use Rattle.plan.specs.Accepted.{
-  headerOk,
-  taskOk,
-  isUnused,
-  notFalling,
-  taskEntry,
-  initialEntry,
-  voteEntry,
-  actuatorEntry,
-  entriesOk,
-  opStorable,
-  storable,
-  wellFormed,
-  accepted,
-}
+use Rattle.plan.specs.Known.{unusedTask, taskAt, votedIn}
+use Rattle.plan.specs.Accepted.{headerOk, taskOk, isUnused, notFalling, taskEntry, initialEntry, voteEntry, actuatorEntry, entriesOk, opStorable, storable, wellFormed}
 use Rattle.plan.proofs.Op as OpType
 use Rattle.plan.proofs.Task as TaskType
 use Rattle.plan.proofs.Plan as PlanType

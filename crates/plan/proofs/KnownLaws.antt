@@ -55,10 +55,6 @@ module _ (p : Plan) (g : ℕ) where
   unfolding knowVoted
   voted-hit k ks v = rw v
 
-  pub voted-miss : (k : ℕ) (ks : List Bool) → votedIn p g k ≡ false → knowVoted p g (suc k) ks ≡ knowVoted p g k ks
-  unfolding knowVoted
-  voted-miss k ks v = rw v
-
   pub voted-length : (k : ℕ) (ks : List Bool) → length (knowVoted p g k ks) ≡ length ks
   unfolding knowVoted
   voted-length zero ks = refl

@@ -1,7 +1,6 @@
 -- Which records an accepted text has: document 01, 'The plan', line by line. All others are refused with 7.
 use mathlib.Core.Bool.{Bool, true, false, not, cond, _&&_, _||_}
-use mathlib.Core.List.{List}
-use Prim.Native.Nat.{ℕ, _+_, _*_, _-_, _^_}
+use Prim.Native.Nat.{ℕ, _*_, _-_, _^_}
 use lib.ListN.{getD, length}
 use lib.Dec.{eqb, leb, ltb}
 use lib.Ieee.{binary64, fits, le}

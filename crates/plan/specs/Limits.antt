@@ -1,5 +1,5 @@
 -- The limits of document 01's header line, and of the tasks: "at most 64".
-use Prim.Native.Nat.{ℕ, _*_}
+use Prim.Native.Nat.{ℕ}
 
 abbrev pub leastNodes : ℕ
 leastNodes = 3

@@ -13,7 +13,7 @@ use Rattle.array.proofs.TestLaws.{split}
 use Rattle.column.specs.Column.{numberOf}
 use Rattle.column.specs.Row.{andThen, numbersFrom, numbersOf}
 use Rattle.column.specs.declared.Number.{Number}
-use Rattle.column.specs.declared.Number.the-variants.{Value, Malformed}
+use Rattle.column.specs.declared.Number.the-variants.{Malformed}
 use Rattle.column.specs.Answers.{shown}
 use Rattle.text.specs.Line.{widths}
 

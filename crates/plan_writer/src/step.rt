@@ -2,8 +2,8 @@
 ghost use mathlib.Core.Path.{_≡_};
 ghost use mathlib.Core.Bool.{true, false, cond};
 ghost use mathlib.Core.List.{[], _∷_, _++_};
-ghost use Prim.Native.Nat.{ℕ, _+_, _*_, _≤_};
-ghost use lib.ListN.{length, getD, take, drop};
+ghost use Prim.Native.Nat.{_+_, _*_, _≤_};
+ghost use lib.ListN.{length, getD, drop};
 ghost use Rattle.array.specs.Index.{howMany, joined};
 ghost use Rattle.column.specs.Row.{row};
 ghost use Rattle.plan.specs.Limits.{mostCells, mostFrames, mostTasks, mostActuators};

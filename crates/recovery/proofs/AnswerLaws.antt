@@ -1,5 +1,5 @@
 -- What the test of a record tells the calls above.
-use mathlib.Core.Path.{_≡_, refl}
+use mathlib.Core.Path.{_≡_}
 use mathlib.Core.Bool.{true, false, not}
 use Prim.Native.Nat.{ℕ, _<_}
 use native.Mathlib.Omega.{arith}
@@ -11,7 +11,9 @@ use Rattle.plan.specs.declared.Plan.{Plan}
 use Rattle.plan.specs.Known.{period}
 use Rattle.plan.specs.Accepted.{wellFormed, accepted}
 use Rattle.recovery.specs.Answers.{checked, acceptedPeriod}
-use Rattle.plan.proofs.AcceptedLaws.{period-of-accepted}
+use Rattle.plan.proofs.AcceptedLaws.{period-of-accepted, shape-of-accepted}
+use Rattle.plan.proofs.PeriodLaws.{period-bound}
+use Rattle.recovery.proofs.WalkedLaws.{bound-small}
 
 module _ (p : Plan) where
   pub accepted-period : accepted p ≡ true → acceptedPeriod p ≡ period p
@@ -56,3 +58,6 @@ module _ (p : Plan) where
   pub checked-done : (acceptedPeriod p ≡ 0 → ⊥) → Done ≡ checked p
   unfolding checked
   checked-done f = rw (taken f)
+
+pub period-small : (p : Plan) → accepted p ≡ true → {r : ℕ} → r ≡ period p → r < 65536
+period-small p a e = let s = shape-of-accepted p a in omega (arith, period-bound p, bound-small p s)

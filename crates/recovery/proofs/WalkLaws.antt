@@ -1,22 +1,21 @@
 -- Laws of the code's way to the recovery period: what its words say of `known`.
-use mathlib.Core.Path.{_≡_, refl, sym, ap, _∙_, subst}
-use mathlib.Core.Bool.{Bool, true, false, cond, _&&_, _||_}
+use mathlib.Core.Path.{_≡_, refl, sym, _∙_}
+use mathlib.Core.Bool.{Bool, true, false, cond}
 use mathlib.Core.List.{List}
-use Prim.Native.Nat.{ℕ, zero, suc, _+_, _-_, _*_, _%_, _/_, _^_, _≤_, _<_, min}
+use Prim.Native.Nat.{ℕ, _+_, _-_, _*_, _%_, _/_, _^_, _≤_, _<_}
 use native.Mathlib.Omega.{arith}
 use native.Mathlib.Nat.{one-mul, mod-eq-of-lt, pow-le-pow-right, one-le-pow}
 use native.Mathlib.Numerals.{add-one}
-use lib.Dec.{eqb, ltb, lit<}
-use lib.ListN.{length, getD, set}
+use lib.Dec.{eqb, lit<}
+use lib.ListN.{getD, set}
 use lib.Bits.{bitAnd, bitOr}
-use borrow.Author.Tests.{eqb-true, eqb-false, lt-ltb, le-ltb}
+use borrow.Author.Tests.{eqb-true, eqb-false, lt-ltb}
 use Rattle.array.specs.Index.{allBelow, fill}
 use Rattle.array.specs.Bit.{bit}
 use Rattle.array.proofs.TestLaws.{split}
-use Rattle.array.proofs.IndexLaws.{allBelow-none, allBelow-more, allBelow-fails}
-use Rattle.array.proofs.BitLaws.{bit-and, bit-or, bit-ones, bit-set, bit-clear}
+use Rattle.array.proofs.IndexLaws.{allBelow-none}
+use Rattle.array.proofs.BitLaws.{bit-and, bit-ones, bit-set}
 use Rattle.array.proofs.PlacesLaws.{fill-more, fill-out}
-use Rattle.recovery.specs.Walk.{withVotes, Unset}
 
 -- ---- words of ones
 

@@ -1,5 +1,5 @@
 -- The code's walk to the recovery period follows `known` from every first frame, and ends at `period`.
-use mathlib.Core.Path.{_≡_, refl, sym, ap, _∙_, subst}
+use mathlib.Core.Path.{_≡_, refl, sym, ap, _∙_}
 use mathlib.Core.Bool.{Bool, true, false, cond, _&&_, _||_}
 use mathlib.Core.List.{List}
 use mathlib.Core.Logic.{_⊎_, inl, inr, ⊎-elim}
@@ -10,9 +10,7 @@ use native.Mathlib.Numerals.{add-one}
 use lib.Dec.{eqb, ltb}
 use lib.ListN.{length, getD, set, replicate, length-set, getD-replicate, List·getD-eq-default}
 use lib.Seq.{getD-set-same, getD-set-other}
-use lib.Bits.{bitAnd, bitOr}
 use borrow.Author.Tests.{eqb-true, eqb-false, ltb-true, ltb-false, lt-ltb, le-ltb}
-use Rattle.array.specs.Index.{allBelow, fill}
 use Rattle.array.specs.Bit.{bit}
 use Rattle.array.proofs.TestLaws.{split, clash, and-left, and-right, and-both}
 use Rattle.array.proofs.IndexLaws.{allBelow-at, allBelow-all}
@@ -26,7 +24,7 @@ use Rattle.recovery.specs.declared.step.Walk.{Walk}
 use Rattle.plan.specs.Known.{taskAt, votedIn, readsKnown, knowTask, knowTasks, knowVoted, knowFrame, known, noneKnown, allKnown, period}
 use Rattle.recovery.specs.Walk.{walkStart, wordsStart, readWord, afterTask, withVotes, whole, longer, Closed}
 use Rattle.plan.proofs.AcceptedLaws.{Shape}
-use Rattle.plan.proofs.KnownLaws.{All, task-elsewhere, task-here, task-target, task-other, voted-is, voted-past, tasks-length, known-first, known-next, known-length, none-known}
+use Rattle.plan.proofs.KnownLaws.{All, task-elsewhere, task-target, task-other, voted-is, voted-past, tasks-length, known-first, known-next, known-length, none-known}
 use Rattle.plan.proofs.PeriodLaws.{allKnown-at, allKnown-all, all-stays, allKnown-stays, period-is, period-none}
 
 -- ---- tests

@@ -12,7 +12,7 @@ use Rattle.array.specs.Index.{fill, joined}
 use Rattle.array.specs.Bit.{bit}
 use Rattle.array.specs.Word.{be}
 use Rattle.array.proofs.TestLaws.{split}
-use Rattle.array.proofs.PlacesLaws.{fill-length, fill-in, fill-out, fill-same}
+use Rattle.array.proofs.PlacesLaws.{fill-length, fill-in, fill-out, fill-same, bin-of}
 use Rattle.plan.specs.declared.Plan.{Plan}
 use Rattle.plan.specs.Limits.{mostNodes, mostCells}
 use Rattle.plan.specs.Known.{votedIn, period as periodOf}
@@ -29,10 +29,9 @@ use Rattle.system.specs.Fault.{faultSize, faultsSize, faultAt, faultMessageAt, 
 use Rattle.system.specs.Plane.{plane}
 use Rattle.system.specs.Frame.{memoryOf, computedBy, heard, mailboxOf, memoryAfter, putOut, goodAfter, systemAfter, placeAfter}
 use Rattle.system.proofs.FaultLaws.{faultMessage-length}
-use Rattle.outputs.proofs.OutputLaws.{plane-same}
-use Rattle.exchange.proofs.MailLaws.{bin-of, memory-ends, message-ends, setpoints-end}
-use Rattle.exchange.proofs.GoodLaws.{be-part}
-use Rattle.phases.proofs.FrameLaws.{fault-computed}
+use Rattle.plane.proofs.HeldLaws.{plane-same}
+use Rattle.mail.proofs.MailLaws.{memory-ends, message-ends, setpoints-end, fault-computed}
+use Rattle.mail.proofs.GoodLaws.{be-part}
 use Rattle.rows.specs.Rows.{wordCount, rowOf, memoryIn, Rows, Through, faultCounter, faultWord, spoiled, frameBefore, votedAt, wordOf, votedBy, counterSent, wordSent, votedRow, Ready, filled, Lent}
 use Rattle.rows.proofs.RowLaws.{row-at, row-length, memory-eq}
 

@@ -23,8 +23,7 @@ use Rattle.memory.specs.Node.{zeroMemory, computed}
 use Rattle.memory.proofs.StepLaws.{computed-is}
 use Rattle.system.specs.declared.System.{System}
 use Rattle.array.specs.Place.{placed}
-use Rattle.array.proofs.PlacedLaws.{placed-before, placed-after}
-use Rattle.exchange.proofs.MailLaws.{part-back}
+use Rattle.array.proofs.PlacedLaws.{placed-before, placed-after, part-back}
 use Rattle.rows.specs.Rows.{rowOf, memoryIn, Rows, Stored, Through, faultCounter, faultWord, spoiled}
 
 -- ---- a row by its words

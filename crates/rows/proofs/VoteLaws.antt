@@ -16,8 +16,7 @@ use Rattle.array.specs.Bit.{bit}
 use Rattle.array.proofs.TestLaws.{split, and-false-right}
 use Rattle.array.proofs.PlacesLaws.{fill-length, fill-in, fill-out}
 use Rattle.plan.specs.Limits.{mostNodes, mostFrames, mostCells}
-use Rattle.ballot.specs.Majority.{majority}
-use Rattle.ballot.specs.Majority.{orOwn}
+use Rattle.ballot.specs.Majority.{majority, orOwn}
 use Rattle.ballot.proofs.MajorityLaws.{majority-same}
 use Rattle.ballot.proofs.ScanLaws.{majority-read}
 use Rattle.rows.specs.Rows.{rowOf, memoryIn, Through, frameBefore, votedAt, votedBy, counterSent, wordSent, votedRow, heardWord, takes, handed, votedWord}

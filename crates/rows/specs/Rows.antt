@@ -12,8 +12,7 @@ use Rattle.plan.specs.declared.Plan.{Plan}
 use Rattle.plan.specs.Limits.{mostNodes, mostCells}
 use Rattle.plan.specs.Accepted.{accepted}
 use Rattle.memory.specs.declared.Memory.{Memory}
-use Rattle.ballot.specs.Majority.{majority}
-use Rattle.ballot.specs.Majority.{orOwn}
+use Rattle.ballot.specs.Majority.{majority, orOwn}
 use Rattle.memory.specs.Node.{computed}
 use Rattle.system.specs.declared.System.{System}
 use Rattle.system.specs.Fault.{faultsSize}

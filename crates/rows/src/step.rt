@@ -11,9 +11,8 @@ ghost use Rattle.array.specs.Bit.{bit};
 ghost use Rattle.plan.specs.Limits.{mostNodes, mostFrames, mostCells, mostActuators};
 ghost use Rattle.plan.specs.Known.{period as periodOf};
 ghost use Rattle.plan.specs.Accepted.{accepted};
-ghost use Rattle.ballot.specs.Majority.{orOwn};
+ghost use Rattle.ballot.specs.Majority.{orOwn, majority as majorityOf};
 ghost use Rattle.memory.specs.Node.{computed};
-ghost use Rattle.ballot.specs.Majority.{majority as majorityOf};
 ghost use Rattle.system.specs.Plane.{plane as planeOf};
 ghost use Rattle.system.specs.Frame.{systemAfter, placeAfter};
 ghost use Rattle.rows.specs.Rows.{rowCount, wordCount, rowOf, memoryIn, Rows, Stored, Through, spoiled, frameBefore, votedAt, votedRow, heardWord, handed, votedWord, sameRow, Ready, filled, Lent};
@@ -127,7 +126,7 @@ pub fn compute(plan: Plan, sensors: &[u64], counters: &mut [u16], cells: &mut [u
     while r < rows {
         let g = counters[r] as usize % frames;
         let at = Plan::CELLS * r;
-        skipped = phases::step::begin(last, skipped, g);
+        skipped = task::step::begin(last, skipped, g);
         last = g;
         let mut k = skipped;
         while k < count {
@@ -402,7 +401,7 @@ fn planes<'a>(
     while a < actuators {
         let cell = table[a];
         let values = column(cells, cell, nodes);
-        place[a] = outputs::step::plane(&values, nodes);
+        place[a] = plane::step::plane(&values, nodes);
         a += 1;
     }
 }

@@ -14,8 +14,7 @@ use Rattle.text.specs.Meant.{opOf, taskOf, headerWith, initialWith, countWith, 
 use Rattle.text.specs.Refused.{lengthOk, isHeader, afterCells, taskInOrder, voteInOrder, actuatorInOrder, inOrder, taskZeros, inRange, rulesOf, formOrRules, lineRefusal, firstRefusal, isLast, endRefusal, periodRefusal, linesRefusal, textRefusal}
 use Rattle.plan_text.specs.Answers.{unlessRefused, readAnswer}
 use Rattle.task.specs.Task.{opValue, runTask, runTasks}
-use Rattle.ballot.specs.Majority.{holders, firstShared, majority}
-use Rattle.ballot.specs.Majority.{orOwn}
+use Rattle.ballot.specs.Majority.{holders, firstShared, majority, orOwn}
 use Rattle.memory.specs.Node.{computed, before, sentCell, messageOf, counterIn, cellIn, votedCounter, votedCell, voted}
 use Rattle.system.specs.Plane.{mostHeld, plane}
 use Rattle.short_table.specs.ShortTable.{linesK, linesTake, planK, planTake, mailbox, countersVoted, cellsVoted, planeOf, late, ShortTable}

@@ -20,8 +20,7 @@ use Rattle.plan.specs.declared.Plan.{Plan}
 use Rattle.plan.specs.Known.{unusedTask, votedIn, readsKnown, knowTask, knowTasks, knowVoted, knowFrame, known, allKnown, periodTo, period}
 use Rattle.plan.specs.Accepted.{headerOk, opOk, taskOk, isZeroTake, isUnused, notFalling, taskEntry, initialEntry, voteEntry, actuatorEntry, entriesOk, opStorable, storable, wellFormed, accepted}
 use Rattle.task.specs.Task.{opValue, runTask, runTasks}
-use Rattle.ballot.specs.Majority.{holders, firstShared, majority}
-use Rattle.ballot.specs.Majority.{orOwn}
+use Rattle.ballot.specs.Majority.{holders, firstShared, majority, orOwn}
 use Rattle.memory.specs.Node.{poweredOn, computed, before, sentCell, messageOf, counterIn, cellIn, votedCounter, votedCell, voted, setpoint}
 use Rattle.system.specs.System.{powerOn}
 use Rattle.system.specs.Fault.{faultMemory, faultMessage, faultSetpoint}

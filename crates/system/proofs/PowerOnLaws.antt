@@ -1,7 +1,6 @@
 -- Laws of the record at power-on.
-use mathlib.Core.Path.{_≡_, refl, sym, ap, _∙_}
+use mathlib.Core.Path.{_≡_, ap, _∙_}
 use mathlib.Core.Bool.{true, false}
-use mathlib.Core.List.{List}
 use Prim.Native.Nat.{ℕ}
 use Rattle.array.specs.Index.{fill}
 use Rattle.answer.specs.declared.Answer.the-variants.{Done, InvalidPlan}
@@ -12,7 +11,6 @@ use Rattle.recovery.specs.Answers.{checked}
 use Rattle.memory.specs.declared.Memory.{Memory}
 use Rattle.memory.specs.Node.{poweredOn}
 use Rattle.system.specs.declared.System.{System}
-use Rattle.system.specs.declared.Started.{Started}
 use Rattle.system.specs.System.{zeroSystem, powerOn, powerOnAnswer}
 
 module _ (p : Plan) where

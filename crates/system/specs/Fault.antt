@@ -3,7 +3,6 @@
 use mathlib.Core.Bool.{Bool}
 use mathlib.Core.List.{List}
 use Prim.Native.Nat.{ℕ, _+_, _*_}
-use lib.ListN.{getD}
 use Rattle.array.specs.Index.{fill, from}
 use Rattle.array.specs.Word.{be}
 use Rattle.array.specs.Bit.{bit}

@@ -1,6 +1,5 @@
 -- Document 01, 'Faults': "The system record begins at power-on: n memories and n good counts, each R, with zeros past them."
 use mathlib.Core.Bool.{cond}
-use Prim.Native.Nat.{ℕ}
 use lib.ListN.{replicate}
 use Rattle.array.specs.Index.{fill}
 use Rattle.plan.specs.declared.Plan.{Plan}

@@ -1,1 +1,2 @@
 pub mod TaskLaws
+pub mod SkipLaws

@@ -1,5 +1,6 @@
 // A task on the cells of a memory.
 ghost use mathlib.Core.Path.{_≡_};
+ghost use mathlib.Core.Logic.{_⊎_};
 ghost use Prim.Native.Nat.{_<_};
 ghost use lib.ListN.{length, getD, set};
 ghost use Rattle.plan.specs.Limits.{mostCells};
@@ -49,4 +50,11 @@ pub fn run_task_in(cells: &mut [u64], t: Task, sensors: &[u64])
     let target = t.target;
     let v = op_value(op, target, sensors, cells);
     cells[target] = v;
+}
+
+// Where the tasks of frame g may begin: after `skipped`, which are not of frame `last`, where that is g.
+pub fn begin(last: usize, skipped: usize, g: usize) -> usize
+    ensures { λ r. ⌜ (r ≡ 0) ⊎ ((g ≡ last) × (r ≡ skipped)) ⌝ }
+{
+    if g == last { skipped } else { 0 }
 }

@@ -1,6 +1,6 @@
 -- Document 01, 'Who can cause which refusal', by the plan's author: refusals over the text, with no reader's state. Each rule goes by the header, the
 -- line's number, the line and the line before it.
-use mathlib.Core.Bool.{Bool, true, false, not, cond, _&&_, _||_}
+use mathlib.Core.Bool.{Bool, false, not, cond, _&&_, _||_}
 use mathlib.Core.List.{List}
 use mathlib.Core.Option.{Option, none, some}
 use Prim.Native.Nat.{ℕ, zero, suc, _+_, _-_, _*_, _%_}

@@ -3,7 +3,9 @@ use mathlib.Core.Path.{_∙_}
 use borrow.Author.Needs.{needs}
 use Rattle.recovery.proofs.AnswerLaws.{accepted-period, accepted-of-period, refused-of-period}
 use Rattle.plan.proofs.AcceptedLaws.{shape-of-accepted}
-use Rattle.frame.proofs.CallLaws.{refused-test, passed-test, counts-are, agreeing-plan, agreeing-counts, agreeing-done}
+use Rattle.array.proofs.TestLaws.{refused-test, passed-test}
+use Rattle.counts.proofs.CountLaws.{counts-are}
+use Rattle.frame.proofs.CallLaws.{agreeing-plan, agreeing-counts, agreeing-done}
 use Rattle.frame.proofs.agreeing.Statement.{statement}
 use Rattle.frame.proofs.agreeing.Tie as tie
 

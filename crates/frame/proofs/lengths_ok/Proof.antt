@@ -2,7 +2,7 @@
 use native.Mathlib.Omega.{arith}
 use Rattle.plan.proofs.AcceptedLaws.{shape-of-accepted}
 use Rattle.system.specs.Frame.{lengthsOk}
-use Rattle.exchange.proofs.SizeLaws.{faults-small}
+use Rattle.mail.proofs.SizeLaws.{faults-small}
 use Rattle.frame.proofs.lengths_ok.Statement.{statement}
 use Rattle.frame.proofs.lengths_ok.Tie as tie
 

@@ -3,7 +3,8 @@ use mathlib.Core.Path.{_∙_}
 use native.Mathlib.Omega.{arith}
 use Rattle.recovery.proofs.AnswerLaws.{accepted-period, accepted-of-period, refused-of-period}
 use Rattle.plan.proofs.AcceptedLaws.{shape-of-accepted}
-use Rattle.frame.proofs.CallLaws.{refused-test, passed-test, counts-are}
+use Rattle.array.proofs.TestLaws.{refused-test, passed-test}
+use Rattle.counts.proofs.CountLaws.{counts-are}
 use Rattle.lines.proofs.StepLaws.{front-length}
 use Rattle.listing.proofs.CallLaws.{next-plan, next-counts, next-room, next-ended, next-taken}
 use borrow.Author.Needs.{needs}

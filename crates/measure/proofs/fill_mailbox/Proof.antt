@@ -4,8 +4,7 @@ use Prim.Native.Nat.{_+_, _-_, _≤_, _<_}
 use native.Mathlib.Omega.{arith}
 use lib.ListN.{length}
 use borrow.Author.Needs.{needs}
-use Rattle.array.proofs.PlacedLaws.{placed-length}
-use Rattle.exchange.proofs.MailLaws.{part-back, part-length}
+use Rattle.array.proofs.PlacedLaws.{placed-length, part-back, part-length}
 use Rattle.measure.proofs.fill_mailbox.Statement.{statement}
 use Rattle.measure.proofs.fill_mailbox.Tie as tie
 

@@ -1,12 +1,12 @@
 -- `measure::frame_often` is safe: the plan is accepted, and the buffers keep their lengths.
-use mathlib.Core.Path.{_≡_, refl, sym, ap, _∙_}
+use mathlib.Core.Path.{_≡_, ap, _∙_}
 use Prim.Native.Nat.{ℕ, _-_, _*_, _≤_, _<_}
 use native.Mathlib.Omega.{arith}
 use lib.ListN.{length, length-set}
 use borrow.Author.Needs.{needs}
 use Rattle.recovery.proofs.AnswerLaws.{accepted-period, accepted-of-period}
 use Rattle.plan.proofs.AcceptedLaws.{shape-of-accepted}
-use Rattle.exchange.proofs.SizeLaws.{faults-small}
+use Rattle.mail.proofs.SizeLaws.{faults-small}
 use Rattle.measure.proofs.frame_often.Statement.{statement}
 use Rattle.measure.proofs.frame_often.Tie as tie
 

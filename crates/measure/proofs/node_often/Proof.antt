@@ -1,5 +1,5 @@
 -- `measure::node_often` is safe: the plan is accepted, and the buffers keep their lengths.
-use mathlib.Core.Path.{_≡_, refl, ap, _∙_}
+use mathlib.Core.Path.{_≡_, ap, _∙_}
 use Prim.Native.Nat.{ℕ, _-_, _*_, _≤_, _<_}
 use native.Mathlib.Omega.{arith}
 use lib.ListN.{length, length-set}
@@ -7,7 +7,7 @@ use borrow.Author.Needs.{needs}
 use Rattle.recovery.proofs.AnswerLaws.{accepted-of-period}
 use Rattle.plan.proofs.AcceptedLaws.{shape-of-accepted}
 use Rattle.memory.specs.Size.{cellAt}
-use Rattle.phases.proofs.FrameLaws.{box-small}
+use Rattle.mail.proofs.SizeLaws.{box-small}
 use Rattle.measure.proofs.node_often.Statement.{statement}
 use Rattle.measure.proofs.node_often.Tie as tie
 

@@ -2,7 +2,7 @@
 use mathlib.Core.Path.{sym, subst}
 use Prim.Native.Nat.{ℕ, _*_, _≤_}
 use native.Mathlib.Omega.{arith}
-use Rattle.exchange.proofs.SizeLaws.{block-small, faults-small}
+use Rattle.mail.proofs.SizeLaws.{block-small, faults-small}
 use borrow.Author.Needs.{needs}
 use Rattle.measure.proofs.step_often.Statement.{statement}
 use Rattle.measure.proofs.step_often.Tie as tie

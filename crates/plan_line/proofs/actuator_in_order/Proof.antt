@@ -1,6 +1,4 @@
-use borrow.Author.Tests.{lt-ltb, le-ltb, le-leb, lt-leb, eq-eqb, ne-eqb}
-use mathlib.Core.Path.{_≡_, refl, sym, ap, _∙_}
-use native.Mathlib.Omega.{arith}
+use borrow.Author.Tests.{eq-eqb, ne-eqb}
 use Rattle.text.specs.Refused.{actuatorInOrder}
 use borrow.Author.Needs.{needs}
 use Rattle.plan_line.proofs.actuator_in_order.Statement.{statement}

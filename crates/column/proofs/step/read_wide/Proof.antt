@@ -1,5 +1,5 @@
 -- `column::step::read_wide` meets its contract: the column from where the reading starts shows what the whole column shows.
-use mathlib.Core.Path.{_≡_, ap, _∙_}
+use mathlib.Core.Path.{ap, _∙_}
 use mathlib.Core.Logic.{⊎-elim}
 use Prim.Native.Nat.{ℕ}
 use lib.Seq.{slice}

@@ -7,7 +7,7 @@ use borrow.Author.Needs.{needs}
 use Rattle.array.specs.Index.{from}
 use Rattle.memory.specs.Size.{counterSize, patternSize}
 use Rattle.array.specs.Place.{placed}
-use Rattle.exchange.proofs.MailLaws.{copied-none, copied-more, copied-all}
+use Rattle.mail.proofs.MailLaws.{copied-none, copied-more, copied-all}
 use Rattle.exchange.proofs.step.copy_bin.Statement.{statement}
 use Rattle.exchange.proofs.step.copy_bin.Tie as tie
 

@@ -12,8 +12,8 @@ use Rattle.plan.specs.Limits.{mostFrames, mostCells}
 use Rattle.memory.specs.Size.{patternSize, cellAt}
 use Rattle.ballot.specs.Majority.{valueOf}
 use Rattle.memory.proofs.StepLaws.{lent, bins-fit}
-use Rattle.exchange.specs.Mail.{goodHolders}
-use Rattle.exchange.proofs.GoodLaws.{Decided, decided-none, decided-voted, decided-kept}
+use Rattle.mail.specs.Mail.{goodHolders}
+use Rattle.mail.proofs.GoodLaws.{Decided, decided-none, decided-voted, decided-kept}
 use Rattle.exchange.proofs.step.decide.Statement.{statement}
 use Rattle.exchange.proofs.step.decide.Tie as tie
 

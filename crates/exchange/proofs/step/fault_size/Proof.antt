@@ -3,7 +3,7 @@ use mathlib.Core.Path.{ap}
 use Prim.Native.Nat.{ℕ, _*_}
 use native.Mathlib.Omega.{arith}
 use borrow.Author.Needs.{needs}
-use Rattle.exchange.proofs.SizeLaws.{block-small}
+use Rattle.mail.proofs.SizeLaws.{block-small}
 use Rattle.exchange.proofs.step.fault_size.Statement.{statement}
 use Rattle.exchange.proofs.step.fault_size.Tie as tie
 

@@ -5,8 +5,8 @@ use native.Mathlib.Omega.{arith}
 use borrow.Author.Needs.{needs}
 use Rattle.memory.specs.Node.{voted}
 use Rattle.memory.specs.Size.{cellAt}
-use Rattle.exchange.specs.Mail.{after}
-use Rattle.exchange.proofs.MailLaws.{memory-ends, faults-few, fault-is, block-is}
+use Rattle.mail.specs.Mail.{after}
+use Rattle.mail.proofs.MailLaws.{memory-ends, faults-few, fault-is, block-is}
 use Rattle.exchange.proofs.step.memory_after.Statement.{statement}
 use Rattle.exchange.proofs.step.memory_after.Tie as tie
 

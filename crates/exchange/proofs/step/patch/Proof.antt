@@ -10,9 +10,9 @@ use Rattle.array.specs.Index.{from, joined}
 use Rattle.array.specs.Bit.{bit}
 use Rattle.plan.specs.Limits.{mostNodes}
 use Rattle.memory.specs.Size.{cellAt}
-use Rattle.exchange.specs.Mail.{patched}
-use Rattle.exchange.proofs.MailLaws.{size-is, block-is, if-bad, if-good, message-ends, faults-few, patched-is, Patching, patching-none, patching-kept, patching-written, patching-all}
-use Rattle.exchange.proofs.SizeLaws.{bin-small, part-ends}
+use Rattle.mail.specs.Mail.{patched}
+use Rattle.mail.proofs.MailLaws.{size-is, block-is, if-bad, if-good, message-ends, faults-few, patched-is, Patching, patching-none, patching-kept, patching-written, patching-all}
+use Rattle.mail.proofs.SizeLaws.{bin-small, part-ends}
 use Rattle.exchange.proofs.step.patch.Statement.{statement}
 use Rattle.exchange.proofs.step.patch.Tie as tie
 

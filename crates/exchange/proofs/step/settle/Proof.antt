@@ -9,9 +9,9 @@ use Rattle.array.specs.Index.{fill}
 use Rattle.array.proofs.PlacesLaws.{fill-none}
 use Rattle.plan.specs.Limits.{mostFrames, mostCells}
 use Rattle.memory.specs.declared.Memory.{Memory}
-use Rattle.exchange.specs.Mail.{settled}
+use Rattle.mail.specs.Mail.{settled}
 use Rattle.array.proofs.LoopLaws.{stored-all}
-use Rattle.exchange.proofs.GoodLaws.{settledCell, settled-voted, settled-kept}
+use Rattle.mail.proofs.GoodLaws.{settledCell, settled-voted, settled-kept}
 use Rattle.exchange.proofs.step.settle.Statement.{statement}
 use Rattle.exchange.proofs.step.settle.Tie as tie
 

@@ -15,10 +15,10 @@ use Rattle.memory.specs.Size.{cellAt}
 use Rattle.memory.specs.Node.{zeroMemory}
 use Rattle.memory.proofs.StepLaws.{lent}
 use Rattle.system.specs.Fault.{faultMemory}
-use Rattle.exchange.specs.Mail.{settled}
+use Rattle.mail.specs.Mail.{settled}
 use Rattle.array.proofs.LoopLaws.{any-default, stored-next, stored-all, stored-still}
-use Rattle.exchange.proofs.MailLaws.{memory-ends, faults-few}
-use Rattle.exchange.proofs.GoodLaws.{settle-same, fault-lent}
+use Rattle.mail.proofs.MailLaws.{memory-ends, faults-few}
+use Rattle.mail.proofs.GoodLaws.{settle-same, fault-lent}
 use Rattle.exchange.proofs.step.settle_all.Statement.{statement}
 use Rattle.exchange.proofs.step.settle_all.Tie as tie
 

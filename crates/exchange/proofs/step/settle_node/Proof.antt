@@ -1,6 +1,6 @@
 -- `exchange::step::settle_node` meets its contract: one way out for a bad node, and one for a good one.
 use borrow.Author.Needs.{needs}
-use Rattle.exchange.proofs.MailLaws.{fault-is}
+use Rattle.mail.proofs.MailLaws.{fault-is}
 use Rattle.exchange.proofs.step.settle_node.Statement.{statement}
 use Rattle.exchange.proofs.step.settle_node.Tie as tie
 

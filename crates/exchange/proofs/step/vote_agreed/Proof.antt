@@ -7,8 +7,8 @@ use borrow.Author.Needs.{needs}
 use Rattle.array.proofs.PlacesLaws.{fill-same}
 use Rattle.memory.specs.Node.{zeroMemory}
 use Rattle.memory.proofs.StepLaws.{lent}
-use Rattle.exchange.proofs.MailLaws.{all-lent}
-use Rattle.exchange.proofs.GoodLaws.{after-settled}
+use Rattle.mail.proofs.MailLaws.{all-lent}
+use Rattle.mail.proofs.GoodLaws.{after-settled}
 use Rattle.exchange.proofs.step.vote_agreed.Statement.{statement}
 use Rattle.exchange.proofs.step.vote_agreed.Tie as tie
 

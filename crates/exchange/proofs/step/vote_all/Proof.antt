@@ -7,7 +7,7 @@ use borrow.Author.Needs.{needs}
 use Rattle.array.specs.Word.{be}
 use Rattle.memory.specs.Size.{counterSize}
 use Rattle.memory.proofs.StepLaws.{lent, bins-fit}
-use Rattle.exchange.specs.Mail.{goodHolders}
+use Rattle.mail.specs.Mail.{goodHolders}
 use Rattle.exchange.proofs.step.vote_all.Statement.{statement}
 use Rattle.exchange.proofs.step.vote_all.Tie as tie
 

@@ -14,8 +14,8 @@ use Rattle.memory.specs.declared.Memory.{Memory}
 use Rattle.memory.specs.Size.{cellAt}
 use Rattle.memory.specs.Node.{zeroMemory}
 use Rattle.memory.proofs.StepLaws.{lent}
-use Rattle.exchange.specs.Mail.{after}
-use Rattle.exchange.proofs.MailLaws.{after-same, all-lent, patched-kept}
+use Rattle.mail.specs.Mail.{after}
+use Rattle.mail.proofs.MailLaws.{after-same, all-lent, patched-kept}
 use Rattle.array.proofs.LoopLaws.{any-default, stored-next, stored-all, stored-still}
 use Rattle.exchange.proofs.step.vote_each.Statement.{statement}
 use Rattle.exchange.proofs.step.vote_each.Tie as tie

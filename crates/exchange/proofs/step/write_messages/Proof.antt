@@ -11,8 +11,9 @@ use Rattle.memory.proofs.StepLaws.{lent, message-lent}
 use Rattle.memory.proofs.MessageLaws.{message-length}
 use Rattle.memory.specs.Node.{zeroMemory, messageOf}
 use Rattle.array.proofs.LoopLaws.{any-default}
-use Rattle.exchange.proofs.SizeLaws.{bin-small, part-ends}
-use Rattle.exchange.proofs.MailLaws.{part-back, part-length, Patching, patching-none, patching-written, patching-all}
+use Rattle.mail.proofs.SizeLaws.{bin-small, part-ends}
+use Rattle.array.proofs.PlacedLaws.{part-back, part-length}
+use Rattle.mail.proofs.MailLaws.{Patching, patching-none, patching-written, patching-all}
 use Rattle.exchange.proofs.step.write_messages.Statement.{statement}
 use Rattle.exchange.proofs.step.write_messages.Tie as tie
 

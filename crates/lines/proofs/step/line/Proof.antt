@@ -6,7 +6,7 @@ use native.Mathlib.Omega.{arith}
 use lib.ListN.{length, take}
 use borrow.Author.Needs.{needs}
 use Rattle.plan.proofs.AcceptedLaws.{shape-of-accepted}
-use Rattle.phases.proofs.FrameLaws.{period-small}
+use Rattle.recovery.proofs.AnswerLaws.{period-small}
 use Rattle.lines.specs.Listing.{lineNumbers}
 use Rattle.lines.proofs.StepLaws.{take-fits, step-refused, step-taken}
 use Rattle.lines.proofs.RowsLaws.{ready-is, numbers-told, numbers-refused, lent-of, told-within, numbers-cut}

@@ -12,8 +12,8 @@ use Rattle.answer.specs.declared.Answer.the-variants.{Done, RunLine}
 use Rattle.plan.proofs.AcceptedLaws.{shape-of-accepted}
 use Rattle.memory.specs.declared.Memory.{Memory}
 use Rattle.system.specs.declared.System.{System}
-use Rattle.exchange.proofs.MailLaws.{part-length}
-use Rattle.phases.proofs.FrameLaws.{period-small}
+use Rattle.array.proofs.PlacedLaws.{part-length}
+use Rattle.recovery.proofs.AnswerLaws.{period-small}
 use Rattle.rows.specs.Rows.{rowCount, wordCount, Rows}
 use Rattle.lines.specs.Line.{runLineSize, printedSize}
 use Rattle.lines.specs.Listing.{mostLines, lineNumbers, systemAt, singleAt}

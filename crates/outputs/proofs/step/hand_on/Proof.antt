@@ -9,7 +9,8 @@ use Rattle.array.specs.Index.{fill}
 use Rattle.plan.specs.Limits.{mostActuators}
 use Rattle.system.specs.Plane.{plane}
 use Rattle.array.proofs.LoopLaws.{stored-next, stored-all}
-use Rattle.outputs.proofs.OutputLaws.{plane-same, column-at}
+use Rattle.plane.proofs.HeldLaws.{plane-same}
+use Rattle.outputs.proofs.OutputLaws.{column-at}
 use Rattle.outputs.proofs.step.hand_on.Statement.{statement}
 use Rattle.outputs.proofs.step.hand_on.Tie as tie
 

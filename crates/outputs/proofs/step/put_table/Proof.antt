@@ -15,7 +15,8 @@ use Rattle.memory.specs.Node.{zeroMemory, setpoint}
 use Rattle.memory.proofs.StepLaws.{lent}
 use Rattle.array.proofs.LoopLaws.{any-default, stored-all}
 use Rattle.outputs.proofs.OutputLaws.{put-same, put-lent, table-long, table-next}
-use Rattle.exchange.proofs.MailLaws.{part-length, setpoints-end, faults-few, size-is, block-is}
+use Rattle.array.proofs.PlacedLaws.{part-length}
+use Rattle.mail.proofs.MailLaws.{setpoints-end, faults-few, size-is, block-is}
 use Rattle.outputs.proofs.step.put_table.Statement.{statement}
 use Rattle.outputs.proofs.step.put_table.Tie as tie
 

@@ -15,7 +15,7 @@ use Rattle.task.specs.Task.{runTasks}
 use Rattle.memory.specs.Node.{zeroMemory, computed}
 use Rattle.memory.proofs.StepLaws.{tasks-none, tasks-hit, tasks-miss, tasks-others, tasks-later, tasks-end, computed-is}
 use Rattle.array.proofs.LoopLaws.{any-default, stored-next, stored-all, stored-still}
-use Rattle.phases.proofs.SkipLaws.{Skips, skips-none, skips-again, skips-few, skips-earlier}
+use Rattle.task.proofs.SkipLaws.{Skips, skips-none, skips-again, skips-few, skips-earlier}
 use Rattle.phases.proofs.step.compute_all.Statement.{statement}
 use Rattle.phases.proofs.step.compute_all.Tie as tie
 

@@ -8,8 +8,10 @@ use Rattle.plan.specs.Limits.{mostNodes}
 use Rattle.plan.proofs.AcceptedLaws.{shape-of-accepted}
 use Rattle.memory.specs.Node.{zeroMemory}
 use Rattle.array.proofs.LoopLaws.{length-mapped}
-use Rattle.exchange.proofs.MailLaws.{part-length}
-use Rattle.phases.proofs.FrameLaws.{period-small, box-small, messages-length, front-again, front-fits, after-front, system-is, place-is}
+use Rattle.array.proofs.PlacedLaws.{part-length}
+use Rattle.recovery.proofs.AnswerLaws.{period-small}
+use Rattle.mail.proofs.SizeLaws.{box-small}
+use Rattle.phases.proofs.FrameLaws.{messages-length, front-again, front-fits, after-front, system-is, place-is}
 use Rattle.phases.proofs.step.frame.Statement.{statement}
 use Rattle.phases.proofs.step.frame.Tie as tie
 

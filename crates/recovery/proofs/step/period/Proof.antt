@@ -1,14 +1,12 @@
-use mathlib.Core.Path.{_≡_, refl, sym, ap, _∙_, subst}
+use mathlib.Core.Path.{_≡_, sym, ap, _∙_, subst}
 use mathlib.Core.Logic.{⊎-elim}
 use mathlib.Core.List.{List}
 use Prim.Native.Nat.{ℕ, _+_, _-_, _*_, _^_, _≤_, _<_, min}
 use native.Mathlib.Nat.{mod-lt, lt-of-lt-of-le}
 use native.Mathlib.Omega.{arith}
 use borrow.Author.Needs.{needs}
-use Rattle.plan.specs.declared.Plan.{Plan}
-use Rattle.recovery.specs.declared.step.Walk.{Walk}
 use Rattle.plan.specs.Known.{taskAt}
-use Rattle.recovery.specs.Walk.{afterTask, Closed}
+use Rattle.recovery.specs.Walk.{afterTask}
 use Rattle.plan.proofs.AcceptedLaws.{Shape, shape-of}
 use Rattle.recovery.proofs.WalkedLaws.{Walked, bound-small, next-short, walked-start, walked-task, walked-next, walked-wrap, walked-found, walked-none}
 use Rattle.recovery.proofs.step.period.Statement.{statement}

@@ -1,4 +1,3 @@
-use mathlib.Core.Path.{sym, ap, _∙_}
 use Rattle.recovery.specs.Walk.{afterTask}
 use borrow.Author.Needs.{needs}
 use Rattle.recovery.proofs.step.put_known.Statement.{statement}

@@ -1,6 +1,5 @@
-use mathlib.Core.Path.{_≡_, sym}
-use native.Mathlib.Omega.{arith}
-use lib.ListN.{length, List·getD-eq-default}
+use mathlib.Core.Path.{sym}
+use lib.ListN.{List·getD-eq-default}
 use borrow.Author.Needs.{needs}
 use Rattle.recovery.proofs.step.word.Statement.{statement}
 use Rattle.recovery.proofs.step.word.Tie as tie

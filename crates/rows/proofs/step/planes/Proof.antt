@@ -8,7 +8,7 @@ use Rattle.array.specs.Index.{fill}
 use Rattle.array.proofs.PlacesLaws.{fill-none}
 use Rattle.system.specs.Plane.{plane}
 use Rattle.array.proofs.LoopLaws.{stored-next, stored-all}
-use Rattle.outputs.proofs.OutputLaws.{plane-same}
+use Rattle.plane.proofs.HeldLaws.{plane-same}
 use Rattle.rows.specs.Rows.{rowOf}
 use Rattle.rows.proofs.RowLaws.{column-word}
 use Rattle.rows.proofs.step.planes.Statement.{statement}

@@ -1,4 +1,4 @@
-use mathlib.Core.Path.{_≡_, sym, _∙_}
+use mathlib.Core.Path.{_∙_}
 use Rattle.recovery.proofs.AnswerLaws.{accepted-period, accepted-of-period, refused-of-period}
 use Rattle.system.proofs.PowerOnLaws.{powerOn-refused, powerOn-done}
 use borrow.Author.Needs.{needs}

@@ -1,18 +1,18 @@
 use Rattle.system.proofs.PowerOnLaws.{powerOn-is}
-use mathlib.Core.Path.{_≡_, refl, sym, ap, _∙_, subst}
+use mathlib.Core.Path.{_≡_, refl, sym, ap, _∙_}
 use mathlib.Core.List.{List}
-use Prim.Native.Nat.{ℕ, _+_, _-_, _≤_}
+use Prim.Native.Nat.{ℕ, _-_, _≤_}
 use lib.ListN.{set}
 use native.Mathlib.Omega.{arith}
 use borrow.Author.Needs.{needs}
 use Rattle.array.specs.Index.{fill}
 use Rattle.array.proofs.PlacesLaws.{fill-none, fill-more}
-use Rattle.plan.proofs.AcceptedLaws.{Shape, shape-of-accepted}
+use Rattle.plan.proofs.AcceptedLaws.{shape-of-accepted}
 use Rattle.plan.proofs.PeriodLaws.{period-bound}
 use Rattle.recovery.proofs.WalkedLaws.{bound-small}
 use Rattle.memory.specs.declared.Memory.{Memory}
 use Rattle.system.specs.declared.System.{System}
-use Rattle.system.specs.System.{zeroSystem, powerOn}
+use Rattle.system.specs.System.{zeroSystem}
 use Rattle.system.proofs.System.started.Statement.{statement}
 use Rattle.system.proofs.System.started.Tie as tie
 

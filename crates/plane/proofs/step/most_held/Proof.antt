@@ -1,4 +1,4 @@
--- `outputs::step::most_held` meets its contract: `best` is the lowest of the first k nodes whose value the most put out.
+-- `plane::step::most_held` meets its contract: `best` is the lowest of the first k nodes whose value the most put out.
 use mathlib.Core.Logic.{⊎-elim}
 use mathlib.Core.Path.{_≡_, sym, ap, _∙_}
 use Prim.Native.Nat.{ℕ, _-_, _≤_, _<_}
@@ -7,9 +7,9 @@ use lib.ListN.{getD}
 use borrow.Author.Needs.{needs}
 use Rattle.ballot.specs.Majority.{holders}
 use Rattle.system.specs.Plane.{mostHeld}
-use Rattle.outputs.proofs.OutputLaws.{held-first, held-new, held-old, plane-is}
-use Rattle.outputs.proofs.step.most_held.Statement.{statement}
-use Rattle.outputs.proofs.step.most_held.Tie as tie
+use Rattle.plane.proofs.HeldLaws.{held-first, held-new, held-old, plane-is}
+use Rattle.plane.proofs.step.most_held.Statement.{statement}
+use Rattle.plane.proofs.step.most_held.Tie as tie
 
 abbrev Inv-loop : tie.InvT-loop
 Inv-loop values n best₀ most₀ k₀ best most k =

@@ -1,4 +1,4 @@
--- `memory::step::vote_with` meets its contract: the loop has voted the first c cells.
+-- `vote::step::vote_with` meets its contract: the loop has voted the first c cells.
 use mathlib.Core.Path.{_≡_, sym, _∙_}
 use mathlib.Core.List.{[]}
 use mathlib.Core.Logic.{⊎-elim}
@@ -9,11 +9,11 @@ use borrow.Author.Needs.{needs}
 use Rattle.array.specs.Index.{fill}
 use Rattle.array.proofs.PlacesLaws.{fill-none}
 use Rattle.plan.specs.Limits.{mostNodes, mostFrames, mostCells}
 use Rattle.memory.specs.Size.{cellAt}
 use Rattle.array.proofs.LoopLaws.{stored-all}
 use Rattle.memory.proofs.StepLaws.{lent, cellAfter, bins-fit, counter-voted, cell-voted, cell-kept, memory-voted, voted-lent}
-use Rattle.memory.proofs.step.vote_with.Statement.{statement}
-use Rattle.memory.proofs.step.vote_with.Tie as tie
+use Rattle.vote.proofs.step.vote_with.Statement.{statement}
+use Rattle.vote.proofs.step.vote_with.Tie as tie
 
 abbrev Inv-loop : tie.InvT-loop
 Inv-loop voted nodes frames count mailbox size counter frame cells₀ c₀ cells c =

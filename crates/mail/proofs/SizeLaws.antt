@@ -4,6 +4,10 @@ use Prim.Native.Nat.{ℕ, suc, _+_, _*_, _≤_, _<_}
 use native.Mathlib.Omega.{arith}
 use native.Mathlib.Nat.{mul-le-mul-right, suc-mul, mul-le-mul}
 use Rattle.plan.specs.Limits.{mostNodes, mostCells, mostActuators}
+use mathlib.Core.Bool.{true}
+use Rattle.plan.specs.declared.Plan.{Plan}
+use Rattle.plan.specs.Accepted.{accepted}
+use Rattle.plan.proofs.AcceptedLaws.{shape-of-accepted}
 use Rattle.memory.specs.Size.{cellAt, patternSize}
 
 module _ (nodes cells actuators : ℕ) (n : nodes ≤ mostNodes) (c : cells ≤ mostCells) (a : actuators ≤ mostActuators) where
@@ -28,3 +32,7 @@ pub part-ends : {len : ℕ} (j n size : ℕ) → j < n → len ≡ n * size → 
 part-ends {len} j n size l e =
     let h : suc j * size ≤ n * size = mul-le-mul-right size l in
     omega (arith, suc-mul j size)
+
+-- the mailbox of an accepted plan
+pub box-small : (p : Plan) → accepted p ≡ true → {size : ℕ} → size ≡ cellAt (p .cells) → p .nodes * size ≤ 1806
+box-small p a e = let s = shape-of-accepted p a in rw e (block-small (p .nodes) (p .cells) (p .actuators) (s .nodes-high) (s .cells-le) (s .actuators-le))

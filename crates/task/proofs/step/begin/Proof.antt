@@ -1,8 +1,8 @@
--- `phases::step::begin` meets its contract: one way out for each case.
+-- `task::step::begin` meets its contract: one way out for each case.
 use mathlib.Core.Path.{refl}
 use mathlib.Core.Logic.{inl, inr}
-use Rattle.phases.proofs.step.begin.Statement.{statement}
-use Rattle.phases.proofs.step.begin.Tie as tie
+use Rattle.task.proofs.step.begin.Statement.{statement}
+use Rattle.task.proofs.step.begin.Tie as tie
 
 returns : tie.Need-returns
 returns c = inr (c .if1 .taken, refl)

@@ -1,8 +1,8 @@
--- `memory::step::vote` meets its contract: what it lends is the plan's.
+-- `vote::step::vote` meets its contract: what it lends is the plan's.
 use mathlib.Core.Path.{refl}
 use Rattle.plan.proofs.AcceptedLaws.{shape-of-accepted}
-use Rattle.memory.proofs.step.vote.Statement.{statement}
-use Rattle.memory.proofs.step.vote.Tie as tie
+use Rattle.vote.proofs.step.vote.Statement.{statement}
+use Rattle.vote.proofs.step.vote.Tie as tie
 
 vote-with-requires : tie.Need-vote-with-requires
 vote-with-requires c κs =

@@ -1,4 +1,4 @@
--- `outputs::step::plane` meets its contract: what more than half put out most put out.
+-- `plane::step::plane` meets its contract: what more than half put out most put out.
 use mathlib.Core.Path.{sym, ap, _∙_}
 use Prim.Native.Nat.{ℕ}
 use lib.ListN.{getD}
@@ -6,8 +6,8 @@ use borrow.Author.Needs.{needs}
 use Rattle.ballot.specs.Majority.{valueOf}
 use Rattle.ballot.proofs.MajorityLaws.{majority-some}
 use Rattle.system.proofs.PlaneLaws.{plane-of-most}
-use Rattle.outputs.proofs.step.plane.Statement.{statement}
-use Rattle.outputs.proofs.step.plane.Tie as tie
+use Rattle.plane.proofs.step.plane.Statement.{statement}
+use Rattle.plane.proofs.step.plane.Tie as tie
 
 returns-2 : tie.Need-returns-2
 returns-2 c =

@@ -15,22 +15,21 @@ use Rattle.array.specs.Bit.{bit}
 use Rattle.array.specs.Word.{be}
 use Rattle.array.proofs.TestLaws.{split, clash, and-left, and-right}
 use Rattle.array.proofs.IndexLaws.{howMany-hit, howMany-miss}
-use Rattle.array.proofs.PlacesLaws.{fill-same, fill-kept}
+use Rattle.array.proofs.PlacesLaws.{fill-same, fill-kept, from-at, bin-of}
 use Rattle.plan.specs.declared.Plan.{Plan}
 use Rattle.plan.specs.Limits.{mostCells}
 use Rattle.plan.specs.Known.{votedIn}
 use Rattle.memory.specs.declared.Memory.{Memory}
 use Rattle.memory.specs.Size.{counterSize, patternSize, cellAt, binSize, binAt}
-use Rattle.ballot.specs.Majority.{holders, majority}
-use Rattle.ballot.specs.Majority.{orOwn}
+use Rattle.ballot.specs.Majority.{holders, majority, orOwn}
 use Rattle.memory.specs.Node.{before, counterIn, cellIn, votedCounter, votedCell, voted}
 use Rattle.memory.proofs.StepLaws.{lent}
 use Rattle.ballot.proofs.ScanLaws.{holders-hit, holders-miss}
 use Rattle.ballot.proofs.MajorityLaws.{holders-same, holders-least, majority-some, majority-of-most}
 use Rattle.system.specs.Fault.{faultMemory}
-use Rattle.exchange.specs.Mail.{Counts, patched, after, goodHolders, settled}
+use Rattle.mail.specs.Mail.{Counts, patched, after, goodHolders, settled}
 use Rattle.array.proofs.LoopLaws.{stored-next}
-use Rattle.exchange.proofs.MailLaws.{from-at, bin-of, patched-length, patched-good}
+use Rattle.mail.proofs.MailLaws.{patched-length, patched-good}
 
 -- ---- the words of good senders, packed
 

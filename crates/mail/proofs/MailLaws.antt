@@ -1,13 +1,13 @@
 -- Laws of bins in a buffer: a buffer by its bins, and the bins after a part is written into it.
 use mathlib.Core.Path.{_≡_, refl, sym, ap, _∙_, subst}
 use mathlib.Core.Bool.{Bool, true, false, cond}
-use mathlib.Core.List.{List, [], _∷_, _++_, append-assoc, append-nil}
+use mathlib.Core.List.{List, [], _++_}
 use Prim.Native.Nat.{ℕ, zero, suc, _+_, _-_, _*_, _/_, _%_, _≤_, _<_}
 use native.Mathlib.Omega.{arith}
-use native.Mathlib.Nat.{mul-le-mul-right, suc-mul, zero-mul, add-assoc, not-suc-le-zero}
+use native.Mathlib.Nat.{mul-le-mul-right, suc-mul, not-suc-le-zero}
 use lib.Dec.{eqb, ltb}
-use lib.ListN.{length, getD, take, drop, length-append, length-take, length-drop, take-append-drop, List·getD-append}
-use lib.Seq.{ext-getD, getD-at, getD-append-add, getD-take, getD-drop, length-take-le, take-at, drop-append-add, drop-drop}
+use lib.ListN.{length, getD, take, drop, take-append-drop}
+use lib.Seq.{ext-getD}
 use borrow.Author.Tests.{ltb-true, ltb-false, eqb-true, eqb-false}
 use Rattle.array.specs.Index.{fill, joined, from}
 use Rattle.array.specs.Bit.{bit}
@@ -15,80 +15,19 @@ use Rattle.array.specs.Place.{placed}
 use Rattle.array.specs.Word.{be, bytes}
 use Rattle.array.proofs.TestLaws.{split}
 use Rattle.array.proofs.PlacedLaws.{placed-length, placed-in, placed-before, placed-after, placed-more}
-use Rattle.array.proofs.PlacesLaws.{Holds, fill-length, fill-in, fill-same, joined-same, joined-holds, from-length}
+use Rattle.array.proofs.PlacesLaws.{fill-length, fill-in, fill-out, fill-same, joined-same, from-length, from-at, from-same, from-add, bins-are, bin-of}
 use Rattle.plan.specs.declared.Plan.{Plan}
-use Rattle.plan.specs.Limits.{mostNodes, mostActuators}
 use Rattle.memory.specs.declared.Memory.{Memory}
-use Rattle.memory.specs.Node.{before, counterIn, cellIn, votedCounter, votedCell, voted, setpoint, zeroMemory}
+use Rattle.plan.proofs.AcceptedLaws.{Shape}
+use Rattle.memory.specs.Node.{computed, before, counterIn, cellIn, votedCounter, votedCell, voted, zeroMemory}
+use Rattle.memory.proofs.NodeLaws.{computed-length, computed-past}
 use Rattle.plan.specs.Known.{votedIn}
 use Rattle.memory.proofs.StepLaws.{lent}
 use Rattle.memory.specs.Size.{counterSize, patternSize, cellAt, binSize, binAt}
-use Rattle.system.specs.Fault.{faultSize, faultAt, faultMemory, faultMessage, faultSetpoint}
+use Rattle.system.specs.Fault.{faultSize, faultAt, faultMemory, faultMessage}
 use Rattle.system.proofs.FaultLaws.{faultMessage-length}
-use Rattle.exchange.specs.Mail.{Small, Counts, allFaults, patched, after}
-use Rattle.exchange.proofs.SizeLaws.{faults-small}
-
--- ---- the entries of a part
-
-module _ {A : Type 0} (d : A) where
-  -- entry i of the n from a place
-  pub from-at : (s : List A) (at n i : ℕ) → i < n → getD (from d s at n) i d ≡ getD s (at + i) d
-  unfolding from
-  from-at s at zero i l = absurd (omega arith)
-  from-at s at (suc n) i l =
-      split (eqb i n)
-      (λ t. rw (eqb-true i n t) (getD-at (from d s at n) (getD s (at + n) d) [] d n (from-length d s at n)))
-      (λ t.
-      let h : i < n = omega (arith, eqb-false i n t) in
-      List·getD-append (from d s at n) (getD s (at + n) d ∷ []) d i (omega (arith, from-length d s at n)) ∙ from-at s at n i h)
-
-  pub from-same : (s t : List A) (a b n : ℕ) → ((i : ℕ) → i < n → getD s (a + i) d ≡ getD t (b + i) d) → from d s a n ≡ from d t b n
-  unfolding from
-  from-same s t a b zero e = refl
-  from-same s t a b (suc n) e = rw (from-same s t a b n (λ i l. e i (omega arith)), e n (omega arith))
-
-  -- a list of n entries is the n entries from its start
-  pub from-all : (s : List A) (n : ℕ) → length s ≡ n → from d s 0 n ≡ s
-  from-all s n e =
-      ext-getD d (from d s 0 n) s (from-length d s 0 n ∙ sym e) (λ i l. from-at s 0 n i (omega (arith, from-length d s 0 n)) ∙ ap (λ (k : ℕ). getD s k d) (let z : 0 + i ≡ i = omega arith in z))
-
-  pub from-add : (s : List A) (at m n : ℕ) → from d s at (m + n) ≡ from d s at m ++ from d s (at + m) n
-  unfolding from
-  from-add s at m zero = let z : m + 0 ≡ m = omega arith in rw z (sym (append-nil (from d s at m)))
-  from-add s at m (suc n) =
-      let y : m + suc n ≡ suc (m + n) = omega arith in
-      let z : at + (m + n) ≡ at + m + n = omega arith in
-      rw (y, from-add s at m n, z) (append-assoc (from d s at m) (from d s (at + m) n) (getD s (at + m + n) d ∷ []))
-
-  -- what a list holds at a place
-  pub from-held : {s : List A} {at : ℕ} {t : List A} (n : ℕ) → length t ≡ n → Holds s at t → from d s at n ≡ t
-  from-held {s} {at} {t} n e h =
-      ext-getD d (from d s at n) t (from-length d s at n ∙ sym e) (λ i l. let k : i < n = omega (arith, from-length d s at n) in from-at s at n i k ∙ entry i k)
-    where
-      entry : (i : ℕ) → i < n → getD s (at + i) d ≡ getD t i d
-      entry i l =
-          rw (← h .size)
-          (ap (λ (x : List A). getD x (length (h .front) + i) d) (h .whole)
-          ∙ getD-append-add (h .front) (t ++ h .back) i d
-          ∙ List·getD-append t (h .back) d i (omega arith))
-
-  -- ---- a list of n bins of one size
-
-  module _ (w : ℕ) where
-    pub bins-front : (s : List A) (n : ℕ) → joined (λ j. from d s (j * w) w) n ≡ from d s 0 (n * w)
-    unfolding joined from
-    bins-front s zero = rw (zero-mul w)
-    bins-front s (suc n) = let z : 0 + n * w ≡ n * w = omega arith in rw (bins-front s n, suc-mul n w, from-add s 0 (n * w) w, z)
-
-    pub bins-all : (s : List A) (n : ℕ) → length s ≡ n * w → s ≡ joined (λ j. from d s (j * w) w) n
-    bins-all s n e = sym (bins-front s n ∙ from-all s (n * w) e)
-
-    -- a buffer whose bins are known
-    pub bins-are : (s : List A) (n : ℕ) (f : ℕ → List A) → length s ≡ n * w → ((j : ℕ) → j < n → from d s (j * w) w ≡ f j) → s ≡ joined f n
-    bins-are s n f e h = bins-all s n e ∙ joined-same _ f n h
-
-    pub bin-of : (f : ℕ → List A) (n j : ℕ) → ((j : ℕ) → length (f j) ≡ w) → j < n → from d (joined f n) (j * w) w ≡ f j
-    bin-of f n j e l = from-held w (e j) (joined-holds f w e n j l)
+use Rattle.mail.specs.Mail.{Small, Counts, allFaults, patched, after}
+use Rattle.mail.proofs.SizeLaws.{faults-small}
 
 -- ---- a bin of words, copied
 
@@ -219,14 +158,6 @@ module _ (want : ℕ → List ℕ) (start : List ℕ) (n w : ℕ) where
 
   pub patching-all : (j : ℕ) (bins : List ℕ) → Patching j bins → j ≡ n → bins ≡ joined want n
   patching-all j bins h e = bins-are 0 w bins n want (h .long) (λ k l. h .done k (omega arith))
-
--- ---- a part that is lent and comes back
-
-pub part-back : (s t part : List ℕ) (at k : ℕ) → part ≡ t → length t ≡ k → take at s ++ (part ++ drop k (drop at s)) ≡ placed s at t
-part-back s t part at k e l = rw (drop-drop k at s, e, ← l)
-
-pub part-length : (s : List ℕ) (at k e : ℕ) → k ≡ e → at + k ≤ length s → length (take k (drop at s)) ≡ e
-part-length s at k e z l = length-take-le k (drop at s) (rw length-drop (omega arith)) ∙ z
 
 -- ---- places in the fault bytes
 
@@ -359,3 +290,29 @@ module _ {A : Type 0} (mask j : ℕ) {b : Bool} (e : b ≡ bit mask j) (x y : A)
 
   pub if-good : {z : A} → b ≡ false → z ≡ y → z ≡ cond (bit mask j) x y
   if-good t h = rw (sym e ∙ t) h
+
+-- ---- what a fault leaves does not hang on the tasks that ran before it
+
+pub fault-computed : (p : Plan) → Shape p → (faults sensors : List ℕ) (i : ℕ) (m : Memory) → faultMemory p faults i (computed p sensors m) ≡ faultMemory p faults i m
+unfolding faultMemory
+fault-computed p s faults sensors i m = λ k. record { counter = be counterSize faults (faultAt p i); cells = cells k }
+  where
+    read : ℕ → ℕ
+    read c = be patternSize faults (faultAt p i + cellAt c)
+
+    long : length (fill read (p .cells) (computed p sensors m .cells)) ≡ length (m .cells)
+    long = fill-length read (p .cells) (computed p sensors m .cells) ∙ computed-length p sensors m
+
+    cells : fill read (p .cells) (computed p sensors m .cells) ≡ fill read (p .cells) (m .cells)
+    cells =
+        ext-getD 0 (fill read (p .cells) (computed p sensors m .cells)) (fill read (p .cells) (m .cells))
+        (long ∙ sym (fill-length read (p .cells) (m .cells)))
+        (λ c h.
+        split (ltb c (p .cells))
+        (λ t.
+        fill-in read (p .cells) (computed p sensors m .cells) c 0 (ltb-true c (p .cells) t) (omega (arith, long, computed-length p sensors m))
+        ∙ sym (fill-in read (p .cells) (m .cells) c 0 (ltb-true c (p .cells) t) (omega (arith, long))))
+        (λ t.
+        fill-out read (p .cells) (computed p sensors m .cells) c 0 (ltb-false c (p .cells) t)
+        ∙ computed-past p sensors m s c (ltb-false c (p .cells) t)
+        ∙ sym (fill-out read (p .cells) (m .cells) c 0 (ltb-false c (p .cells) t))))

@@ -1,4 +1,4 @@
--- `memory::step::cells_at` meets its contract: the loop has read the cell of the first j bins.
+-- `vote::step::cells_at` meets its contract: the loop has read the cell of the first j bins.
 use mathlib.Core.Path.{_≡_, sym}
 use Prim.Native.Nat.{_+_, _-_, _*_, _≤_}
 use native.Mathlib.Omega.{arith}
@@ -6,11 +6,11 @@ use borrow.Author.Needs.{needs}
 use Rattle.array.specs.Index.{fill}
 use Rattle.array.specs.Word.{be}
 use Rattle.array.proofs.PlacesLaws.{fill-none}
 use Rattle.memory.specs.Size.{patternSize}
 use Rattle.array.proofs.LoopLaws.{stored-next, stored-all}
 use Rattle.memory.proofs.StepLaws.{bin-ends}
-use Rattle.memory.proofs.step.cells_at.Statement.{statement}
-use Rattle.memory.proofs.step.cells_at.Tie as tie
+use Rattle.vote.proofs.step.cells_at.Statement.{statement}
+use Rattle.vote.proofs.step.cells_at.Tie as tie
 
 abbrev Inv-loop : tie.InvT-loop
 Inv-loop mailbox n size at values₀ j₀ values j = (j ≤ n) × (values ≡ fill (λ b. be patternSize mailbox (b * size + at)) j values₀)

@@ -1,0 +1,2 @@
+// The vote of one node on its mailbox.
+pub mod step;
