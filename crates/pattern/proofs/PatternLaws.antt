@@ -16,6 +16,10 @@ pattern-of-nan = refl
 
 -- ---- the cases of Limit
 
+-- the code's test, by the results of its two calls
+pub tested : {x y a b t : Bool} → x ≡ a → y ≡ b → (x || y) ≡ t → (a || b) ≡ t
+tested e f h = rw (← e, ← f) h
+
 module _ (a : ℕ) (low high : Float) where
   pub limit-low : (lt (valueOf a) low || isNanOf a) ≡ true → limitOf a low high ≡ patternOf low
   unfolding limitOf

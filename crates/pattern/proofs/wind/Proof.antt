@@ -5,7 +5,7 @@ use Rattle.pattern.proofs.wind.Tie as tie
 
 returns : tie.Need-returns
 unfolding windOf
-returns c = cc
+returns c = rw (c .wind-limit .ensures, c .before .pattern .ensures, c .before .before .before .before .value .ensures, c .before .before .before .value2 .ensures)
 
 pub wind-spec : {M : Type 1} → statement M
 wind-spec =

@@ -17,14 +17,14 @@ is-task-requires c κs = search needs
 
 returns : tie.Need-returns
 unfolding actuatorInOrder
-returns c = rw (eq-eqb _ _ (c .before .before .before .if1 .taken)) (cc)
+returns c = rw (eq-eqb _ _ (c .before .before .before .if1 .taken), c .before .before .after-cells .ensures, c .before .is-task .ensures)
 
 follows-requires : tie.Need-follows-requires
 follows-requires c κs = search needs
 
 returns-2 : tie.Need-returns-2
 unfolding actuatorInOrder
-returns-2 c = rw (ne-eqb _ _ (c .before .before .if1 .left)) (cc)
+returns-2 c = rw (ne-eqb _ _ (c .before .before .if1 .left), c .follows .ensures)
 
 pub actuator-in-order-spec : {M : Type 1} → statement M
 actuator-in-order-spec =

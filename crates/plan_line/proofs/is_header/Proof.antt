@@ -11,7 +11,7 @@ header-ok-requires c κs = search needs
 
 returns : tie.Need-returns
 unfolding isHeader
-returns c = cc
+returns c = rw (c .header-ok .ensures)
 
 pub is-header-spec : {M : Type 1} → statement M
 is-header-spec = tie.close (tie.spec header-ok-requires returns)

@@ -11,7 +11,7 @@ follows-requires c κs = search needs
 
 returns : tie.Need-returns
 unfolding isLast
-returns c = cc
+returns c = rw (c .follows .ensures)
 
 pub is-last-spec : {M : Type 1} → statement M
 is-last-spec = tie.close (tie.spec follows-requires returns)

@@ -19,7 +19,7 @@ is-task-requires c κs = search needs
 
 returns : tie.Need-returns
 unfolding taskInOrder
-returns c = cc
+returns c = rw (c .before .before .before .before .room-for-task .ensures, c .before .before .before .after-cells .ensures, c .before .before .is-task .ensures)
 
 pub task-in-order-spec : {M : Type 1} → statement M
 task-in-order-spec =

@@ -11,7 +11,7 @@ op-of-requires c κs = search needs
 
 returns : tie.Need-returns
 unfolding taskOf
-returns c = cc
+returns c = rw (c .op-of .ensures)
 
 pub task-of-spec : {M : Type 1} → statement M
 task-of-spec = tie.close (tie.spec op-of-requires returns)

@@ -19,7 +19,7 @@ smaller-vote-requires c κs = search needs
 
 returns : tie.Need-returns
 unfolding voteInOrder
-returns c = cc
+returns c = rw (c .before .before .after-cells .ensures, c .before .is-task .ensures, c .smaller-vote .ensures)
 
 pub vote-in-order-spec : {M : Type 1} → statement M
 vote-in-order-spec =

@@ -6,7 +6,7 @@ use Rattle.plan.proofs.entries.is_unused.Tie as tie
 
 returns : tie.Need-returns
 unfolding isUnused
-returns c = cc
+returns c = rw (c .is-zero-take .ensures)
 
 pub is-unused-spec : {M : Type 1} → statement M
 is-unused-spec = tie.close (tie.spec (λ c κs. search needs) returns)

@@ -6,27 +6,27 @@ use Rattle.plan.proofs.entries.is_zero_take.Tie as tie
 
 returns : tie.Need-returns
 unfolding isZeroTake
-returns c = rw (c .before .op .given .1) (cc)
+returns c = rw (c .before .op .given .1)
 
 returns-2 : tie.Need-returns-2
 unfolding isZeroTake
-returns-2 c = rw (c .enum-told .given .1) (cc)
+returns-2 c = rw (c .enum-told .given .1)
 
 returns-3 : tie.Need-returns-3
 unfolding isZeroTake
-returns-3 c = rw (c .enum-told2 .given .1) (cc)
+returns-3 c = rw (c .enum-told2 .given .1)
 
 returns-4 : tie.Need-returns-4
 unfolding isZeroTake
-returns-4 c = rw (c .enum-told3 .given .1) (cc)
+returns-4 c = rw (c .enum-told3 .given .1)
 
 returns-5 : tie.Need-returns-5
 unfolding isZeroTake
-returns-5 c = rw (c .enum-told4 .given .1) (cc)
+returns-5 c = rw (c .enum-told4 .given .1)
 
 returns-6 : tie.Need-returns-6
 unfolding isZeroTake
-returns-6 c = rw (c .enum-told5 .given .1) (cc)
+returns-6 c = rw (c .enum-told5 .given .1)
 
 pub is-zero-take-spec : {M : Type 1} → statement M
 is-zero-take-spec =

@@ -6,27 +6,27 @@ use Rattle.plan.proofs.entries.op_ok.Tie as tie
 
 returns : tie.Need-returns
 unfolding opOk
-returns c = rw (c .before .op .given .1) (cc)
+returns c = rw (c .before .op .given .1)
 
 returns-2 : tie.Need-returns-2
 unfolding opOk
-returns-2 c = rw (c .before .op2 .given .1) (cc)
+returns-2 c = rw (c .before .op2 .given .1)
 
 returns-3 : tie.Need-returns-3
 unfolding opOk
-returns-3 c = rw (c .before .op3 .given .1) (cc)
+returns-3 c = rw (c .before .op3 .given .1)
 
 returns-4 : tie.Need-returns-4
 unfolding opOk
-returns-4 c = rw (c .before .before .op4 .given .1) (cc)
+returns-4 c = rw (c .before .before .op4 .given .1, c .is-finite .ensures)
 
 returns-5 : tie.Need-returns-5
 unfolding opOk
-returns-5 c = rw (c .before .before .before .op5 .given .1) (cc)
+returns-5 c = rw (c .before .before .before .op5 .given .1, c .before .is-finite2 .ensures, c .is-finite3 .ensures)
 
 returns-6 : tie.Need-returns-6
 unfolding opOk
-returns-6 c = rw (c .before .before .before .op6 .given .1) (cc)
+returns-6 c = rw (c .before .before .before .op6 .given .1, c .before .is-finite4 .ensures, c .is-finite-unsigned .ensures)
 
 pub op-ok-spec : {M : Type 1} → statement M
 op-ok-spec =

@@ -6,7 +6,7 @@ use Rattle.plan.proofs.entries.task_ok.Tie as tie
 
 returns : tie.Need-returns
 unfolding taskOk
-returns c = cc
+returns c = rw (c .op-ok .ensures)
 
 pub task-ok-spec : {M : Type 1} → statement M
 task-ok-spec = tie.close (tie.spec (λ c κs. search needs) returns)
