@@ -227,7 +227,7 @@ fn finish_line<'a>(
 {
     let working = rows::step::working(good, nodes, period, mask);
     let mut planes = [0u64; Plan::ACTUATORS];
-    rows::step::finish(
+    row_phases::step::finish(
         voted,
         table,
         nodes,

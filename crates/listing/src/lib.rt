@@ -14,7 +14,6 @@ ghost use Rattle.lines.specs.Step.{lineTaken};
 use answer::Answer;
 use lines::Printed;
 use lines::Run;
-use plan::Plan;
 use plan_text::TextWritten;
 use system::System;
 

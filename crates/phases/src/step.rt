@@ -79,7 +79,7 @@ pub fn frame(
     let end = nodes * memory::step::message_size(cells);
     let mut bins = [0u8; MAILBOX];
     exchange::step::write_messages(&plan.voted, nodes, frames, cells, own, &mut bins[0..end]);
-    let memories = exchange::step::vote_all(
+    let memories = agreement::step::vote_all(
         &plan.voted,
         nodes,
         frames,

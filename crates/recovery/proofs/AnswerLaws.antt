@@ -13,7 +13,7 @@ use Rattle.plan.specs.Accepted.{wellFormed, accepted}
 use Rattle.recovery.specs.Answers.{checked, acceptedPeriod}
 use Rattle.plan.proofs.AcceptedLaws.{period-of-accepted, shape-of-accepted}
 use Rattle.plan.proofs.PeriodLaws.{period-bound}
-use Rattle.recovery.proofs.WalkedLaws.{bound-small}
+use Rattle.walk.proofs.WalkedLaws.{bound-small}
 
 module _ (p : Plan) where
   pub accepted-period : accepted p ≡ true → acceptedPeriod p ≡ period p

@@ -1,3 +1,1 @@
-pub mod WalkLaws
-pub mod WalkedLaws
 pub mod AnswerLaws

@@ -6,9 +6,9 @@ use native.Mathlib.Nat.{mod-lt, lt-of-lt-of-le}
 use native.Mathlib.Omega.{arith}
 use borrow.Author.Needs.{needs}
 use Rattle.plan.specs.Known.{taskAt}
-use Rattle.recovery.specs.Walk.{afterTask}
+use Rattle.walk.specs.Walk.{afterTask}
 use Rattle.plan.proofs.AcceptedLaws.{Shape, shape-of}
-use Rattle.recovery.proofs.WalkedLaws.{Walked, bound-small, next-short, walked-start, walked-task, walked-next, walked-wrap, walked-found, walked-none}
+use Rattle.walk.proofs.WalkedLaws.{Walked, bound-small, next-short, walked-start, walked-task, walked-next, walked-wrap, walked-found, walked-none}
 use Rattle.recovery.proofs.step.period.Statement.{statement}
 use Rattle.recovery.proofs.step.period.Tie as tie
 

@@ -1,0 +1,11 @@
+use Rattle.walk.specs.Walk.{afterTask}
+use borrow.Author.Needs.{needs}
+use Rattle.walk.proofs.step.put_known.Statement.{statement}
+use Rattle.walk.proofs.step.put_known.Tie as tie
+
+returns : tie.Need-returns
+unfolding afterTask
+returns c = rw (c .read-word .ensures)
+
+pub put-known-spec : {M : Type 1} → statement M
+put-known-spec = tie.close (tie.spec (λ c κs. search needs) (λ c. search needs) (λ c. search needs) returns)

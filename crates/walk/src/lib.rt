@@ -1,0 +1,2 @@
+// The walk through the frames from all first frames together, which finds the recovery period.
+pub mod step;
