@@ -5,11 +5,11 @@ use mathlib.Core.List.{List, []}
 use mathlib.Core.Option.{none, some}
 use Prim.Native.Nat.{ℕ, zero, suc, _+_, _-_, _*_, _^_, _<_, _≤_}
 use native.Mathlib.Numerals.{add-one}
-use native.Mathlib.Nat.{add-zero, add-suc, le-trans, min-le-left}
+use native.Mathlib.Nat.{add-zero, add-suc, le-trans, lt-of-lt-of-le, min-le-left, pow-suc, pow-le-pow-right}
 use native.Mathlib.Omega.{arith}
 use lib.ListN.{length, getD, take, drop, length-take, drop-of-length-le}
 use lib.Seq.{take-all, take-length, take-add, drop-at, length-take-le, slice, slice-cons}
-use lib.Dec.{leb, eqb}
+use lib.Dec.{leb, eqb, lit<}
 use borrow.Author.Tests.{eq-eqb, ne-eqb, le-leb, lt-leb, lt-ltb, le-ltb, eqb-true, eqb-false}
 use Rattle.array.specs.Index.{allBelow}
 use Rattle.array.proofs.TestLaws.{split, and-left, and-right, and-false-right}
@@ -74,6 +74,13 @@ slice-part s f t l k =
 
 -- ---- the digits
 
+-- a digit more
+pub power-more : (v x i : ℕ) → v < 10 ^ i → x < 10 → v * 10 + x < 10 ^ (i + 1)
+power-more v x i l h = rw (add-one i) (omega (arith, pow-suc 10 i))
+
+pub power-below : (v i n : ℕ) → v < 10 ^ i → i ≤ n → v < 10 ^ n
+power-below v i n l h = lt-of-lt-of-le l (pow-le-pow-right (lit< tt) h)
+
 module _ (d : List ℕ) where
   pub decimal-none : decimal d 0 ≡ 0
   unfolding decimal
@@ -90,6 +97,12 @@ module _ (d : List ℕ) where
       split (eqb k (suc n))
       (λ t. rw (eqb-true k (suc n) t) (omega arith))
       (λ t. omega (arith, decimal-grows k n (omega (arith, eqb-false k (suc n) t))))
+
+  -- with a first digit above zero, k digits more are a power of ten
+  decimal-power : (k : ℕ) → 48 < getD d 0 0 → 10 ^ k ≤ decimal d (suc k)
+  unfolding decimal
+  decimal-power zero h = omega arith
+  decimal-power (suc k) h = omega (arith, pow-suc 10 k, decimal-power k h)
 
   -- a byte more is a digit
   pub digits-more :
@@ -129,6 +142,10 @@ module _ (d : List ℕ) where
   pub numeral-large : (k : ℕ) → k ≤ length d → 2 ^ 64 ≤ decimal d k → none ≡ numeralOf d
   unfolding numeralOf
   numeral-large k l h = rw (le-ltb (decimal d (length d)) (2 ^ 64) (le-trans h (decimal-grows k (length d) l)), and-false)
+
+  -- more than twenty digits
+  pub numeral-long : 20 < length d → 48 < getD d 0 0 → none ≡ numeralOf d
+  numeral-long l h = numeral-large 21 l (omega (arith, decimal-power 20 h))
 
   -- ---- what is read
 
