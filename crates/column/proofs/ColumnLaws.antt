@@ -12,8 +12,9 @@ use lib.Dec.{eqb, lit<}
 use lib.ListN.{length, getD, take, length-append}
 use lib.Seq.{take-suc, take-length}
 use borrow.Author.Tests.{eqb-true, ne-eqb}
-use Rattle.column.specs.Column.{dropBlanks, decimal, numeralOf, numberOf, mark, front, column}
-use Rattle.column.proofs.ReadingLaws.{decimal-none, decimal-grows, numeral-read}
+use Rattle.numeral.specs.Numeral.{decimal, numeralOf}
+use Rattle.column.specs.Column.{dropBlanks, numberOf, mark, front, column}
+use Rattle.numeral.proofs.NumeralLaws.{decimal-none, decimal-grows, numeral-read}
 use Rattle.column.proofs.DigitsLaws.{Digit, Digits, wellFormed-of-digits, numeral-parts, decimal-one, decimal-last, decimal-bound, decimal-snoc, digits-snoc, digits-lone}
 
 -- ---- how long a column is

@@ -14,8 +14,8 @@ use borrow.Author.Tests.{eq-eqb, eqb-true, eqb-false, le-leb, leb-true, ltb-true
 use Rattle.array.specs.Index.{allBelow}
 use Rattle.array.proofs.TestLaws.{split, clash, and-left, and-right, and-both}
 use Rattle.array.proofs.IndexLaws.{allBelow-at, allBelow-all}
-use Rattle.column.specs.Column.{isDigit, decimal, wellFormed, numeralOf}
-use Rattle.column.proofs.ReadingLaws.{wellFormed-all}
+use Rattle.numeral.specs.Numeral.{isDigit, decimal, wellFormed, numeralOf}
+use Rattle.numeral.proofs.NumeralLaws.{wellFormed-all}
 
 abbrev pub Digit : ℕ → Type 0
 Digit b = (48 ≤ b) × (b ≤ 57)

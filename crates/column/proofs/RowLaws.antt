@@ -10,10 +10,10 @@ use lib.ListN.{length, getD, take, drop, length-append, take-append-drop, drop-o
 use lib.Seq.{slice, length-slice, length-take-le, drop-append-le, drop-cons, take-append-add, take-at, drop-at, getD-at}
 use borrow.Author.Tests.{eqb-true, eq-eqb}
 use Rattle.array.proofs.TestLaws.{and-left, and-right}
-use Rattle.column.specs.declared.Number.{Number}
-use Rattle.column.specs.declared.Number.the-variants.{Value}
+use Rattle.numeral.specs.declared.Number.{Number}
+use Rattle.numeral.specs.declared.Number.the-variants.{Value}
 use Rattle.column.specs.Column.{column, numberOf}
-use Rattle.column.specs.Answers.{shown}
+use Rattle.numeral.specs.Answers.{shown}
 use Rattle.column.specs.Row.{row, Room, andThen, numbersFrom, numbersOf}
 use Rattle.column.proofs.ColumnLaws.{column-length, column-of-number, number-of-column, number-bound, number-fits, number-full}
 

@@ -6,8 +6,8 @@ ghost use lib.ListN.{length, getD};
 ghost use lib.Seq.{slice};
 ghost use Rattle.array.specs.Index.{allBelow};
 ghost use Rattle.column.specs.Column.{numberOf};
-ghost use Rattle.column.specs.Answers.{shown};
-use super::Number;
+ghost use Rattle.numeral.specs.Answers.{shown};
+use numeral::Number;
 
 // Whether eight blanks stand from i on. Joined by `&`, the tests become one comparison of a word.
 fn eight_blanks(line: &[u8], i: usize) -> bool

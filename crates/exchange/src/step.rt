@@ -41,7 +41,7 @@ pub fn write_messages(
     while j < nodes {
         let m = memories[j];
         let at = j * size;
-        memory::step::message_with(voted, frames, cells, m, &mut bins[at..at + size]);
+        message::step::message_with(voted, frames, cells, m, &mut bins[at..at + size]);
         j += 1;
     }
 }

@@ -13,9 +13,9 @@ use borrow.Author.Tests.{eq-eqb, ne-eqb, lt-leb, le-leb}
 use Rattle.array.proofs.TestLaws.{and-false-left, and-false-right, clash}
 use Rattle.column.specs.Column.{numberOf}
 use Rattle.column.specs.Row.{andThen, numbersFrom, numbersOf}
-use Rattle.column.specs.declared.Number.{Number}
-use Rattle.column.specs.declared.Number.the-variants.{Malformed}
-use Rattle.column.specs.Answers.{shown}
+use Rattle.numeral.specs.declared.Number.{Number}
+use Rattle.numeral.specs.declared.Number.the-variants.{Malformed}
+use Rattle.numeral.specs.Answers.{shown}
 use Rattle.array.proofs.BitLaws.{mask-fits}
 use Rattle.lines.specs.Line.{runWidths, inLimits, runNumbers}
 use Rattle.lines.specs.Step.{ifRead}

@@ -20,8 +20,8 @@ ghost use Rattle.lines.specs.Step.{blockLines, stepAnswer, stepPlace, pr
 use super::Printed;
 use super::Run;
 use answer::Answer;
-use column::Number;
 use memory::Memory;
+use numeral::Number;
 use plan::Plan;
 use system::System;
 

@@ -1,10 +1,10 @@
 // Repeats one call on the plan in `plan.txt`, so that bench/ can count what it costs: the difference between two counts of repeats.
 // Standard input has a row: what (width 4) and how often (8). 1: plan_text::read. 2: recovery::check. 3: a node's compute, message and vote. 4: a frame of
 // the whole system. 5: the same with node 0 bad. It prints a sum of what the calls gave.
-use column::Number;
 use libc::STDIN_FILENO;
 use libc::STDOUT_FILENO;
 use memory::Memory;
+use numeral::Number;
 use plan::Plan;
 use system::System;
 
@@ -99,7 +99,7 @@ fn node_often(plan: Plan, times: u64, sensors: &mut [u64], bins: &mut [u8], out:
     while k < times {
         sensors[0] = k;
         let next = memory::step::compute(plan, m, sensors);
-        memory::step::message_with(&plan.voted, frames, cells, next, out);
+        message::step::message_with(&plan.voted, frames, cells, next, out);
         m = vote::step::vote_with(&plan.voted, nodes, frames, cells, next, bins);
         k += 1;
     }

@@ -62,7 +62,7 @@ pub fn message(plan: Plan, memory: Memory, out: &mut [u8]) -> Answer
     if out.len() != memory::step::message_size(cells) {
         return Answer::WrongLength;
     }
-    memory::step::message(plan, memory, out);
+    message::step::message(plan, memory, out);
     Answer::Done
 }
 

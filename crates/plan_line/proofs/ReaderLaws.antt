@@ -12,9 +12,9 @@ use borrow.Author.Tests.{eq-eqb, ne-eqb, eqb-true, eqb-false, lt-ltb, le-ltb, lt
 use Rattle.array.proofs.TestLaws.{split}
 use Rattle.column.specs.Column.{numberOf}
 use Rattle.column.specs.Row.{andThen, numbersFrom, numbersOf}
-use Rattle.column.specs.declared.Number.{Number}
-use Rattle.column.specs.declared.Number.the-variants.{Malformed}
-use Rattle.column.specs.Answers.{shown}
+use Rattle.numeral.specs.declared.Number.{Number}
+use Rattle.numeral.specs.declared.Number.the-variants.{Malformed}
+use Rattle.numeral.specs.Answers.{shown}
 use Rattle.text.specs.Line.{widths}
 
 -- ---- a line's columns

@@ -8,7 +8,7 @@ ghost use Rattle.text.specs.Line.{widths, isTask};
 ghost use Rattle.text.specs.Meant.{opOf, taskOf};
 ghost use Rattle.text.specs.Refused.{isHeader, afterCells, taskInOrder, smallerVote, voteInOrder, actuatorInOrder, inOrder, taskZeros, inRange, isLast};
 ghost use Rattle.plan_line.specs.Reader.{numbersIn, numbersRead};
-use column::Number;
+use numeral::Number;
 use pattern::WindLaw;
 use plan::Op;
 use plan::Plan;

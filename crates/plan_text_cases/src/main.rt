@@ -1,7 +1,7 @@
 // Reads the plan texts of the file `texts` and prints each one's refusal: number (width 4) and line (8). A text stands after its length in
 // a column of width 8 and a line feed. tests/plan_texts/cases.rs makes the file, and what is to be printed, from document 01.
-use column::Number;
 use libc::STDOUT_FILENO;
+use numeral::Number;
 
 fn show(text: &[u8]) {
     let read = plan_text::read(text);

@@ -4,7 +4,8 @@ use lib.Ieee.{ofBits, toBits, lt, isNan, add}
 use Rattle.array.specs.Index.{howMany, allBelow, fill, joined}
 use Rattle.array.specs.Word.{be, bytes}
 use Rattle.pattern.specs.Pattern.{sumOf, limitOf}
-use Rattle.column.specs.Column.{dropBlanks, decimal, wellFormed, numeralOf, numberOf, mark, front, column}
+use Rattle.numeral.specs.Numeral.{decimal, wellFormed, numeralOf}
+use Rattle.column.specs.Column.{dropBlanks, numberOf, mark, front, column}
 use Rattle.column.specs.Row.{row, numbersFrom, numbersOf}
 use Rattle.plan.specs.Known.{votedIn, readsKnown, knowTask, knowTasks, knowVoted, knowFrame, known, allKnown, periodTo, period}
 use Rattle.plan.specs.Accepted.{headerOk, opOk, taskOk}

@@ -1,7 +1,8 @@
 -- `column::read` meets its contract: what its two calls ensure, one after the other.
 use mathlib.Core.Path.{ap, _∙_}
 use borrow.Author.Needs.{needs}
-use Rattle.column.specs.Column.{numeralOf, numberOf}
+use Rattle.numeral.specs.Numeral.{numeralOf}
+use Rattle.column.specs.Column.{numberOf}
 use Rattle.column.proofs.read.Statement.{statement}
 use Rattle.column.proofs.read.Tie as tie
 

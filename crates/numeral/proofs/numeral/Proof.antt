@@ -1,4 +1,4 @@
--- `column::numeral` meets its contract. The loop's invariant: the first `i` bytes are digits, at most nineteen, and `v` is the number that they are.
+-- `numeral::numeral` meets its contract. The loop's invariant: the first `i` bytes are digits, at most nineteen, and `v` is the number that they are.
 use mathlib.Core.Path.{_≡_, refl, ap, _∙_}
 use mathlib.Core.Bool.{true}
 use Prim.Native.Nat.{_≤_, _+_, _-_, _*_, _^_, _<_}
@@ -7,10 +7,10 @@ use mathlib.Core.Logic.{⊎-elim}
 use lib.ListN.{length, getD}
 use borrow.Author.Needs.{needs}
 use Rattle.array.specs.Index.{allBelow}
-use Rattle.column.specs.Column.{decimal, isDigit}
-use Rattle.column.proofs.ReadingLaws.{digits-more, numeral-empty, numeral-zeros, numeral-zero, numeral-low, numeral-high, numeral-large, numeral-long, numeral-whole, decimal-more, power-more, power-below}
-use Rattle.column.proofs.numeral.Statement.{statement}
-use Rattle.column.proofs.numeral.Tie as tie
+use Rattle.numeral.specs.Numeral.{isDigit, decimal}
+use Rattle.numeral.proofs.NumeralLaws.{decimal-more, digits-more, numeral-empty, numeral-zeros, numeral-low, numeral-high, numeral-large, numeral-long, numeral-whole, numeral-zero, power-more, power-below}
+use Rattle.numeral.proofs.numeral.Statement.{statement}
+use Rattle.numeral.proofs.numeral.Tie as tie
 
 abbrev Inv-loop : tie.InvT-loop
 Inv-loop d n a few v₀ i₀ v i =

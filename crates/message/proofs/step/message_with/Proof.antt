@@ -1,4 +1,4 @@
--- `memory::step::message_with` meets its contract: the loop has written the counter and the first c cells.
+-- `message::step::message_with` meets its contract: the loop has written the counter and the first c cells.
 use mathlib.Core.Path.{_≡_, sym, _∙_}
 use mathlib.Core.List.{[], _++_}
 use Prim.Native.Nat.{_-_, _≤_, _<_}
@@ -8,11 +8,11 @@ use borrow.Author.Needs.{needs}
 use Rattle.array.specs.Index.{joined}
 use Rattle.array.specs.Word.{bytes}
 use Rattle.plan.specs.Limits.{mostFrames, mostCells}
 use Rattle.memory.specs.Size.{counterSize, patternSize, cellAt}
 use Rattle.memory.specs.Node.{sentCell, messageOf}
 use Rattle.memory.proofs.StepLaws.{lent, sent-none, sent-more, sent-all, sent-cell, message-lent}
-use Rattle.memory.proofs.step.message_with.Statement.{statement}
-use Rattle.memory.proofs.step.message_with.Tie as tie
+use Rattle.message.proofs.step.message_with.Statement.{statement}
+use Rattle.message.proofs.step.message_with.Tie as tie
 
 abbrev Inv-loop : tie.InvT-loop
 Inv-loop voted frames cells out₀ memory counter g c₀ out c =

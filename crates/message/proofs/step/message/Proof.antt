@@ -1,9 +1,9 @@
--- `memory::step::message` meets its contract: what it lends is the plan's.
+-- `message::step::message` meets its contract: what it lends is the plan's.
 use mathlib.Core.Path.{refl}
 use Rattle.plan.proofs.AcceptedLaws.{shape-of-accepted}
 use borrow.Author.Needs.{needs}
-use Rattle.memory.proofs.step.message.Statement.{statement}
-use Rattle.memory.proofs.step.message.Tie as tie
+use Rattle.message.proofs.step.message.Statement.{statement}
+use Rattle.message.proofs.step.message.Tie as tie
 
 message-with-requires : tie.Need-message-with-requires
 message-with-requires c κs =

@@ -1,6 +1,6 @@
--- `memory::step::sent` meets its contract: one arm for each case of `cond`.
-use Rattle.memory.proofs.step.sent.Statement.{statement}
-use Rattle.memory.proofs.step.sent.Tie as tie
+-- `message::step::sent` meets its contract: one arm for each case of `cond`.
+use Rattle.message.proofs.step.sent.Statement.{statement}
+use Rattle.message.proofs.step.sent.Tie as tie
 
 returns : tie.Need-returns
 returns c = rw (c .if1 .taken)

@@ -1,0 +1,2 @@
+// What one node sends.
+pub mod step;
