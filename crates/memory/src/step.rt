@@ -1,7 +1,7 @@
 // The steps of a node, for callers that know the plan to be accepted and the lengths to be right.
 ghost use mathlib.Core.Path.{_≡_};
 ghost use mathlib.Core.Bool.{true};
-ghost use Prim.Native.Nat.{ℕ, _+_, _-_, _*_, _%_, _<_, _≤_};
+ghost use Prim.Native.Nat.{ℕ, _+_, _-_, _%_, _<_, _≤_};
 ghost use lib.ListN.{length, getD};
 ghost use Rattle.array.specs.Index.{fill};
 ghost use Rattle.plan.specs.Limits.{mostCells, mostActuators};

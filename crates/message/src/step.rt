@@ -1,7 +1,7 @@
 // The message of one node, for callers that know the plan to be accepted and the lengths to be right.
 ghost use mathlib.Core.Path.{_≡_};
 ghost use mathlib.Core.Bool.{true, cond};
-ghost use Prim.Native.Nat.{_+_, _-_, _*_, _<_, _≤_};
+ghost use Prim.Native.Nat.{_<_, _≤_};
 ghost use lib.ListN.{length};
 ghost use Rattle.plan.specs.Limits.{mostFrames, mostCells};
 ghost use Rattle.plan.specs.Accepted.{accepted};

@@ -1,4 +1,4 @@
-// One node: power-on, compute, message, vote, setpoints. Each call tests the plan and the lengths; the steps under them are those of `memory`.
+// One node: power-on, compute, message, vote, setpoints. Each call tests the plan and the lengths; the steps under them are those of `memory`, `message` and `vote`.
 ghost use mathlib.Core.Path.{_≡_};
 ghost use lib.ListN.{length};
 ghost use Rattle.memory.specs.Size.{messageSize};

@@ -1,4 +1,4 @@
--- Laws for the proof of `step::frame`: what its parts give is the record and the place of the definitions.
+-- Laws for the proof of `phases::step::frame`: what its parts give is the record and the place of the definitions.
 use mathlib.Core.Path.{_≡_, sym, ap, _∙_}
 use mathlib.Core.Bool.{true, cond}
 use mathlib.Core.List.{List, _++_}

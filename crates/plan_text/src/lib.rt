@@ -1,10 +1,9 @@
 // Reading and writing a plan text.
 ghost use mathlib.Core.Path.{_≡_};
-ghost use Prim.Native.Nat.{_<_, _*_};
+ghost use Prim.Native.Nat.{_<_};
 ghost use mathlib.Core.Bool.{true};
 ghost use mathlib.Core.Option.{some};
 ghost use lib.ListN.{length};
-ghost use Rattle.answer.specs.declared.Answer.the-variants.{Done};
 ghost use Rattle.plan.specs.Limits.{mostFrames, mostCells, mostActuators};
 ghost use Rattle.text.specs.Line.{numbersAt, cellKind, voteKind, actuatorKind};
 ghost use Rattle.text.specs.Meant.{zeroPlan, initialWith, votedWith, actuatorsWith};

@@ -1,8 +1,8 @@
 // The steps of a run on rows, for callers that know the plan to be accepted and its period. Row 0 is the single controller, row j + 1 node j. All fault
 // bytes of a frame equal `fill`, so every node hears the same of a bad one.
 ghost use mathlib.Core.Path.{_≡_};
-ghost use mathlib.Core.Bool.{true, false, not, _&&_};
-ghost use Prim.Native.Nat.{_+_, _*_, _<_, _≤_};
+ghost use mathlib.Core.Bool.{true, not, _&&_};
+ghost use Prim.Native.Nat.{_+_, _<_, _≤_};
 ghost use lib.Dec.{eqb};
 ghost use lib.ListN.{length, getD};
 ghost use Rattle.array.specs.Index.{howMany, fill as filledWith};

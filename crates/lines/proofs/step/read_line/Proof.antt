@@ -1,4 +1,4 @@
--- `reading::read_line` meets its contract: one law for each way out.
+-- `lines::step::read_line` meets its contract: one law for each way out.
 use borrow.Author.Needs.{needs}
 use Rattle.column.proofs.RowLaws.{value-read}
 use Rattle.lines.proofs.ReadingLaws.{rest-read, rest-refused, malformed-read, length-bad, end-bad, mask-bad, fill-bad, patterns-bad, mask-large, fill-large, line-whole}

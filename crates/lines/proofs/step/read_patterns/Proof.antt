@@ -1,4 +1,4 @@
--- `reading::read_patterns` meets its contract. The loop's invariant: the first `k` patterns in the array and the rest of the line are the line's.
+-- `lines::step::read_patterns` meets its contract. The loop's invariant: the first `k` patterns in the array and the rest of the line are the line's.
 use mathlib.Core.Path.{_≡_}
 use Prim.Native.Nat.{_-_, _≤_, _<_}
 use lib.ListN.{length}
