@@ -7,7 +7,7 @@ use Prim.Native.Nat.{ℕ, _+_, _-_, _*_, _≤_, _<_}
 use native.Mathlib.Nat.{add-sub-cancel-left}
 use native.Mathlib.Omega.{arith}
 use lib.ListN.{length, take, drop}
-use borrow.Author.Tests.{not-true, not-false}
+use Rattle.array.proofs.TestLaws.{refused-test, passed-test}
 use Rattle.answer.specs.declared.Answer.{Answer}
 use Rattle.answer.specs.declared.Answer.the-variants.{Done, TextLength, Malformed, Header, OutOfOrder, OutOfRange, Unrecoverable}
 use Rattle.column.specs.Row.{numbersOf}
@@ -28,14 +28,6 @@ use Rattle.text.proofs.LineLaws.{slice-part, lineAt-is, some-line, few-lines}
 use Rattle.text.proofs.MeantLaws.{planTo-start, planTo-more, planTo-tasks, planTo-count}
 use Rattle.text.proofs.RefusedLaws.{first-start, first-more, line-malformed, not-header, header-passes, refused-order, refused-range, not-refused, lines-none, lines-refused, lines-missing, text-wrong-length, text-refused, text-unrecoverable, text-none}
 use Rattle.text.proofs.ToldLaws.{text-wellFormed}
-
--- ---- a test that the code makes
-
-pub fails : {r b : Bool} → r ≡ b → not r ≡ true → b ≡ false
-fails {r} e n = sym e ∙ not-true r n
-
-pub holds : {r b : Bool} → r ≡ b → not r ≡ false → b ≡ true
-holds {r} e n = sym e ∙ not-false r n
 
 -- ---- the numbers of line i, as the code takes them
 
@@ -132,11 +124,11 @@ module _ {s h : List ℕ} {p : Plan} {prev : List ℕ} {i : ℕ} (r : ReadTo s h
       range o = rw (r .header) o
 
       pub answer-order : {x : PlanRead} {t : Bool} → t ≡ inOrder h (i - 1) prev l → not t ≡ true → Refusal x (OutOfOrder (i + 1)) → x ≡ readAnswer s
-      answer-order o t f = stops (refused-order s i (r .later) l n (order (fails o t))) f
+      answer-order o t f = stops (refused-order s i (r .later) l n (order (refused-test o t))) f
 
       pub answer-range :
           {x : PlanRead} {t : Bool} → inOrder h (i - 1) prev l ≡ true → t ≡ inRange h l → not t ≡ true → Refusal x (OutOfRange (i + 1)) → x ≡ readAnswer s
-      answer-range o g t f = stops (refused-range s i (r .later) l n (order o) (range (fails g t))) f
+      answer-range o g t f = stops (refused-range s i (r .later) l n (order o) (range (refused-test g t))) f
 
       pub read-more : {q : Plan} → inOrder h (i - 1) prev l ≡ true → inRange h l ≡ true → q ≡ withLine l p → ReadTo s h q l (i + 1)
       read-more o g e =
@@ -163,11 +155,11 @@ module _ {s h : List ℕ} {p : Plan} {prev : List ℕ} {i : ℕ} (r : ReadTo s h
     last-line e = rw (← at-end, r .header, r .last) e
 
     pub answer-missing : {x : PlanRead} {t : Bool} → t ≡ isLast h prev → not t ≡ true → Refusal x (OutOfOrder (lineCount s + 1)) → x ≡ readAnswer s
-    answer-missing e t f = refused s (text-refused s _ (r .length-ok) (lines-missing s no-refusal (last-line (fails e t)))) f
+    answer-missing e t f = refused s (text-refused s _ (r .length-ok) (lines-missing s no-refusal (last-line (refused-test e t)))) f
 
     module _ {t : Bool} (e : t ≡ isLast h prev) (u : not t ≡ false) where
       lines-pass : linesRefusal s ≡ none
-      lines-pass = lines-none s no-refusal (last-line (holds e u))
+      lines-pass = lines-none s no-refusal (last-line (passed-test e u))
 
       whole : p ≡ planOf s
       unfolding planOf

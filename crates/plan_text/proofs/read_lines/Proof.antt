@@ -14,7 +14,8 @@ use Rattle.text.specs.Refused.{inOrder, inRange}
 use Rattle.plan_line.specs.Reader.{numbersIn}
 use Rattle.text.proofs.RefusedLaws.{cell-index, vote-index, actuator-index}
 use Rattle.plan_text.proofs.StoreLaws.{later-kind, header-stored, task-stored, other-stored, counted}
-use Rattle.plan_text.proofs.ReadLaws.{holds, whole-line, no-line, ReadTo, read-start, read-tasks, read-count, read-more, read-wellFormed, answer-malformed, answer-order, answer-range, answer-missing, answer-unrecoverable, answer-done}
+use Rattle.array.proofs.TestLaws.{passed-test}
+use Rattle.plan_text.proofs.ReadLaws.{whole-line, no-line, ReadTo, read-start, read-tasks, read-count, read-more, read-wellFormed, answer-malformed, answer-order, answer-range, answer-missing, answer-unrecoverable, answer-done}
 use Rattle.plan_text.proofs.read_lines.Statement.{statement}
 use Rattle.plan_text.proofs.read_lines.Tie as tie
 
@@ -33,10 +34,10 @@ numbers c =
 order :
     (c : tie.Else1 Inv-loop μ-loop) →
     inOrder (numbersIn (c .before .before .before .before .before .before .before .before .before .before .before .args .h)) (c .before .before .before .before .before .before .before .before .loop .i - 1) (numbersIn (c .before .before .before .before .before .before .before .before .loop .prev)) (numbersIn (c .before .before .before .l .given .0 .0)) ≡ true
-order c = holds (c .before .in-order .ensures) (c .if1 .left)
+order c = passed-test (c .before .in-order .ensures) (c .if1 .left)
 
 range : (c : tie.Else2 Inv-loop μ-loop) → inRange (numbersIn (c .before .before .before .before .before .before .before .before .before .before .before .before .before .args .h)) (numbersIn (c .before .before .before .before .before .l .given .0 .0)) ≡ true
-range c = holds (c .before .in-range .ensures) (c .if2 .left)
+range c = passed-test (c .before .in-range .ensures) (c .if2 .left)
 
 -- the record with its entry; past the 64th there is no place for a task
 stored : (c : tie.Joined3 Inv-loop μ-loop) → c .if3 .plan ≡ withLine (numbersIn (c .before .before .before .before .before .before .before .before .before .before .before .before .before .l .given .0 .0)) (c .before .before .before .before .before .before .before .before .before .before .before .before .before .before .before .before .before .before .loop .plan)
