@@ -1,13 +1,15 @@
--- Laws of `allBelow` and `howMany`: nothing yet, one more, each place after.
+-- Laws of `allBelow` and `howMany`: nothing yet, one more, each place after. Laws of `allIn`: each entry.
 use mathlib.Core.Path.{_≡_, refl, sym, ap, subst}
 use mathlib.Core.Bool.{Bool, true, false, cond}
+use mathlib.Core.List.{List, [], _∷_, List·Memᴰ, List·Memᴰ·head, List·Memᴰ·tail, List·Memᴰ·not-nil, List·Memᴰ·cases-cons}
+use mathlib.Core.Logic.{⊎-elim}
 use Prim.Native.Nat.{ℕ, zero, suc, _+_, _≤_, _<_}
 use native.Mathlib.Omega.{arith}
 use native.Mathlib.Nat.{le-refl, not-suc-le-zero}
 use native.Mathlib.Numerals.{add-one}
 use lib.Dec.{eqb}
 use borrow.Author.Tests.{eqb-true, eqb-false}
-use Rattle.array.specs.Index.{howMany, allBelow}
+use Rattle.array.specs.Index.{howMany, allBelow, allIn}
 use Rattle.array.proofs.TestLaws.{split, and-left, and-right, and-both, clash}
 
 -- ---- all pass
@@ -37,6 +39,20 @@ module _ (q : ℕ → Bool) where
   -- one that fails is enough
   pub allBelow-fails : (n k : ℕ) → k < n → q k ≡ false → allBelow q n ≡ false
   allBelow-fails n k l e = split (allBelow q n) (λ t. absurd (clash (allBelow-at n k l t) e)) (λ t. t)
+
+-- ---- every entry of a list passes
+
+module _ (q : ℕ → Bool) where
+  pub allIn-at : (l : List ℕ) {x : ℕ} → allIn q l ≡ true → List·Memᴰ x l → q x ≡ true
+  unfolding allIn
+  allIn-at [] e m = absurd (List·Memᴰ·not-nil m)
+  allIn-at (y ∷ l) e m =
+      ⊎-elim (λ p. rw p (and-left (q y) (allIn q l) e)) (λ n. allIn-at l (and-right (q y) (allIn q l) e) n) (List·Memᴰ·cases-cons m)
+
+  pub allIn-all : (l : List ℕ) → ((x : ℕ) → List·Memᴰ x l → q x ≡ true) → allIn q l ≡ true
+  unfolding allIn
+  allIn-all [] f = refl
+  allIn-all (y ∷ l) f = and-both (f y (List·Memᴰ·head refl)) (allIn-all l (λ x m. f x (List·Memᴰ·tail m)))
 
 -- ---- how many pass
 

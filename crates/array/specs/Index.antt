@@ -1,4 +1,4 @@
--- Definitions that recur on an index, as a loop over 0 .. n-1 does.
+-- Definitions that recur on an index, as a loop over 0 .. n-1 does, and on a list.
 use mathlib.Core.Bool.{Bool, true, cond, _&&_}
 use mathlib.Core.List.{List, [], _∷_, _++_}
 use Prim.Native.Nat.{ℕ, zero, suc, _+_}
@@ -13,6 +13,11 @@ howMany q (suc k) = howMany q k + cond (q k) 1 0
 unfoldable pub allBelow : (ℕ → Bool) → ℕ → Bool
 allBelow q zero = true
 allBelow q (suc k) = allBelow q k && q k
+
+-- every entry of a list passes the test
+unfoldable pub allIn : (ℕ → Bool) → List ℕ → Bool
+allIn q [] = true
+allIn q (x ∷ l) = q x && allIn q l
 
 module _ {A : Type 0} where
   -- the list with f k stored at each place k below n; the places from n on stay

@@ -43,7 +43,7 @@ pub record Shape (p : Plan) : Type 0 where
   -- the tasks
   pub frame : (k : ℕ) → k < p .«task_count» → taskAt p k .frame < p .frames
   pub target : (k : ℕ) → k < p .«task_count» → taskAt p k .target < p .cells
-  pub op : (k : ℕ) → k < p .«task_count» → opOk (p .cells) (p .sensors) (taskAt p k .op) ≡ true
+  pub op : (k : ℕ) → k < p .«task_count» → opOk (p .cells) (p .sensors) (taskAt p k .target) (taskAt p k .op) ≡ true
   pub op-storable : (k : ℕ) → k < p .«task_count» → opStorable (taskAt p k .op) ≡ true
   pub order : (k : ℕ) → suc k < p .«task_count» → taskAt p k .frame ≤ taskAt p (suc k) .frame
   pub ordered : (j k : ℕ) → j ≤ k → k < p .«task_count» → taskAt p j .frame ≤ taskAt p k .frame

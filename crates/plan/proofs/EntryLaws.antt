@@ -3,7 +3,7 @@
 use mathlib.Core.Path.{_≡_, refl, sym, _∙_}
 use mathlib.Core.Logic.{_⊎_, inl, inr}
 use mathlib.Core.List.{List, [], _∷_, map}
-use mathlib.Core.Bool.{Bool, true, false, not, cond, _&&_, _||_, and-false}
+use mathlib.Core.Bool.{Bool, true, false, not, cond, _&&_, _||_, and-false, and-true}
 use Prim.Native.Nat.{ℕ, zero, suc, _+_, _*_, _-_, _^_, _≤_, _<_}
 use native.Mathlib.Omega.{arith}
 use native.Mathlib.Nat.{not-suc-le-zero}
@@ -17,7 +17,7 @@ use denote.Shadow.{shadow}
 use denote.Laws.{Is}
 use denote.Array.{each}
 use borrow.Author.Tests.{lt-ltb, le-ltb, le-leb, eq-eqb, ne-eqb, not-true, not-false}
-use Rattle.array.specs.Index.{allBelow}
+use Rattle.array.specs.Index.{allBelow, allIn}
 use Rattle.array.proofs.IndexLaws.{allBelow-at, allBelow-all}
 use Rattle.array.proofs.TestLaws.{and-both}
 use Rattle.plan.specs.declared.Op.{Op}
@@ -33,6 +33,17 @@ use Rattle.plan.proofs.Plan as PlanType
 -- a loop is done: all of the places that it has passed, n among them or not, pass the test
 pub all-done : (q : ℕ → Bool) {k n : ℕ} → allBelow q k ≡ true → n ≤ k → true ≡ allBelow q n
 all-done q {k} {n} h l = sym (allBelow-all q n (λ j m. allBelow-at q k j (omega arith) h))
+
+-- ---- the cells of a task in range, tested one by one
+
+module _ (n : ℕ) where
+  pub one-in : (a : ℕ) → ltb a n ≡ allIn (λ c. ltb c n) (a ∷ [])
+  unfolding allIn
+  one-in a = sym (and-true (ltb a n))
+
+  pub two-in : (a b : ℕ) → (ltb a n && ltb b n) ≡ allIn (λ c. ltb c n) (a ∷ b ∷ [])
+  unfolding allIn
+  two-in a b = rw (and-true (ltb b n))
 
 -- ---- a row of the table of votes
 

@@ -1,7 +1,7 @@
 -- Laws of the known cells: lengths, what a task and a vote do to each cell, and that more known before gives more known after.
 use mathlib.Core.Path.{_≡_, refl, sym, _∙_}
-use mathlib.Core.Bool.{Bool, true, false, _&&_, _||_}
-use mathlib.Core.List.{List}
+use mathlib.Core.Bool.{Bool, true, false, _||_}
+use mathlib.Core.List.{List, List·Memᴰ}
 use Prim.Native.Nat.{ℕ, zero, suc, _+_, _%_, _≤_, _<_}
 use native.Mathlib.Omega.{arith}
 use native.Mathlib.Nat.{not-suc-le-zero}
@@ -9,13 +9,13 @@ use lib.Dec.{eqb, ltb}
 use lib.ListN.{length, getD, set, length-set, getD-replicate, List·getD-eq-default}
 use lib.Seq.{getD-set-same, getD-set-other}
 use borrow.Author.Tests.{ltb-true, ltb-false, eqb-true, eqb-false, eq-eqb, ne-eqb}
-use Rattle.array.proofs.TestLaws.{split, clash, and-left, and-right, and-both}
+use Rattle.array.proofs.IndexLaws.{allIn-at, allIn-all}
+use Rattle.array.proofs.TestLaws.{split, clash, and-left}
 use Rattle.plan.specs.declared.Op.{Op}
-use Rattle.plan.specs.declared.Op.the-variants.{Take, Sum, Diff, Scale, Limit, Wind}
 use Rattle.plan.specs.declared.Task.{Task}
 use Rattle.plan.specs.declared.Plan.{Plan}
 use Rattle.plan.specs.Limits.{mostCells}
-use Rattle.plan.specs.Known.{taskAt, votedIn, readsKnown, knowTask, knowTasks, knowVoted, knowFrame, noneKnown, known}
+use Rattle.plan.specs.Known.{taskAt, votedIn, reads, readsKnown, knowTask, knowTasks, knowVoted, knowFrame, noneKnown, known}
 use Rattle.plan.specs.Accepted.{opOk}
 use Rattle.plan.proofs.AcceptedLaws.{Shape}
 
@@ -147,30 +147,21 @@ All n ks = (x : ℕ) → x < n → getD ks x false ≡ true
 pub none-sub : (n : ℕ) (ls : List Bool) → Sub n noneKnown ls
 none-sub n ls x l e = absurd (clash e (none-known x))
 
-both-sub : {a b c d : Bool} → (a ≡ true → c ≡ true) → (b ≡ true → d ≡ true) → (a && b) ≡ true → (c && d) ≡ true
-both-sub {a} {b} f h e = and-both (f (and-left a b e)) (h (and-right a b e))
-
 -- for cells in range
-module _ (n m t : ℕ) (tl : t < n) where
-  pub reads-sub : (o : Op) (ks ls : List Bool) → opOk n m o ≡ true → Sub n ks ls → readsKnown o t ks ≡ true → readsKnown o t ls ≡ true
-  unfolding readsKnown opOk
-  reads-sub (Take s) ks ls k h = λ e. e
-  reads-sub (Sum a b) ks ls k h = both-sub (h a (ltb-true _ _ (and-left _ _ k))) (h b (ltb-true _ _ (and-right (ltb a n) _ k)))
-  reads-sub (Diff a b) ks ls k h = both-sub (h a (ltb-true _ _ (and-left _ _ k))) (h b (ltb-true _ _ (and-right (ltb a n) _ k)))
-  reads-sub (Scale a factor) ks ls k h = h a (ltb-true _ _ (and-left _ _ k))
-  reads-sub (Limit a low high) ks ls k h = h a (ltb-true _ _ (and-left _ _ k))
-  reads-sub (Wind a law) ks ls k h = both-sub (h a (ltb-true _ _ (and-left _ _ k))) (h t tl)
+module _ (n m t : ℕ) (o : Op) (ok : opOk n m t o ≡ true) where
+  reads-in : {x : ℕ} → List·Memᴰ x (reads o t) → x < n
+  unfolding opOk
+  reads-in {x} i = ltb-true x n (allIn-at (λ c. ltb c n) (reads o t) (and-left _ _ ok) i)
 
-  pub reads-all : (o : Op) (ks : List Bool) → opOk n m o ≡ true → All n ks → readsKnown o t ks ≡ true
-  unfolding readsKnown opOk
-  reads-all (Take s) ks k h = refl
-  reads-all (Sum a b) ks k h = and-both (h a (ltb-true _ _ (and-left _ _ k))) (h b (ltb-true _ _ (and-right (ltb a n) _ k)))
-  reads-all (Diff a b) ks k h = and-both (h a (ltb-true _ _ (and-left _ _ k))) (h b (ltb-true _ _ (and-right (ltb a n) _ k)))
-  reads-all (Scale a factor) ks k h = h a (ltb-true _ _ (and-left _ _ k))
-  reads-all (Limit a low high) ks k h = h a (ltb-true _ _ (and-left _ _ k))
-  reads-all (Wind a law) ks k h = and-both (h a (ltb-true _ _ (and-left _ _ k))) (h t tl)
+  pub reads-sub : (ks ls : List Bool) → Sub n ks ls → readsKnown o t ks ≡ true → readsKnown o t ls ≡ true
+  unfolding readsKnown
+  reads-sub ks ls h e = allIn-all _ (reads o t) (λ x i. h x (reads-in i) (allIn-at (λ c. getD ks c false) (reads o t) e i))
 
-module _ (n m g : ℕ) (t : Task) (tl : t .target < n) (ok : opOk n m (t .op) ≡ true) where
+  pub reads-all : (ks : List Bool) → All n ks → readsKnown o t ks ≡ true
+  unfolding readsKnown
+  reads-all ks h = allIn-all _ (reads o t) (λ x i. h x (reads-in i))
+
+module _ (n m g : ℕ) (t : Task) (tl : t .target < n) (ok : opOk n m (t .target) (t .op) ≡ true) where
   pub task-sub : (ks ls : List Bool) → n ≤ length ls → Sub n ks ls → Sub n (knowTask g t ks) (knowTask g t ls)
   task-sub ks ls l h x xl =
       split (eqb (t .frame) g)
@@ -181,14 +172,14 @@ module _ (n m g : ℕ) (t : Task) (tl : t .target < n) (ok : opOk n m (t .op) �
       at-target : t .frame ≡ g → getD (knowTask g t ks) (t .target) false ≡ true → getD (knowTask g t ls) (t .target) false ≡ true
       at-target f k =
           task-target g t ls f (omega arith)
-          ∙ reads-sub n m (t .target) tl (t .op) ks ls ok h
+          ∙ reads-sub n m (t .target) (t .op) ok ks ls h
           (sym (task-target g t ks f (omega (arith, in-of (knowTask g t ks) (t .target) k, task-length g t ks))) ∙ k)
 
   pub task-all : (ks : List Bool) → n ≤ length ks → All n ks → All n (knowTask g t ks)
   task-all ks l h x xl =
       split (eqb (t .frame) g)
       (λ e. split (eqb x (t .target))
-      (λ q. rw (eqb-true x (t .target) q) (task-target g t ks (eqb-true (t .frame) g e) (omega arith) ∙ reads-all n m (t .target) tl (t .op) ks ok h))
+      (λ q. rw (eqb-true x (t .target) q) (task-target g t ks (eqb-true (t .frame) g e) (omega arith) ∙ reads-all n m (t .target) (t .op) ok ks h))
       (λ q. task-other g t ks x (eqb-false x (t .target) q) ∙ h x xl))
       (λ e. rw (task-elsewhere g t ks (eqb-false (t .frame) g e)) (h x xl))
 

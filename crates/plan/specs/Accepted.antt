@@ -4,14 +4,14 @@ use Prim.Native.Nat.{ℕ, _*_, _-_, _^_}
 use lib.ListN.{getD, length}
 use lib.Dec.{eqb, leb, ltb}
 use lib.Ieee.{binary64, fits, le}
-use Rattle.array.specs.Index.{allBelow}
+use Rattle.array.specs.Index.{allBelow, allIn}
 use Rattle.pattern.specs.Constant.{finite, finiteUnsigned}
 use Rattle.plan.specs.declared.Op.{Op}
 use Rattle.plan.specs.declared.Op.the-variants.{Take, Sum, Diff, Scale, Limit, Wind}
 use Rattle.plan.specs.declared.Task.{Task}
 use Rattle.plan.specs.declared.Plan.{Plan}
 use Rattle.plan.specs.Limits.{leastNodes, mostNodes, mostFrames, mostCells, mostSensors, mostActuators, mostTasks}
-use Rattle.plan.specs.Known.{taskAt, votedIn, period}
+use Rattle.plan.specs.Known.{taskAt, votedIn, reads, period}
 
 -- ---- the header: "nodes n, 3–7; frames F, 1–16; cells C, 1–32; sensors S, 1–16; actuators A, 1–8", and "at most 64" tasks
 
@@ -25,17 +25,22 @@ headerOk nodes frames cells sensors actuators tasks =
 
 -- ---- tasks
 
--- indices in range; "Factor, low, high, rate and cap are patterns of finite values; low ≤ high; cap has sign bit 0"
-unfoldable pub opOk : ℕ → ℕ → Op → Bool
-opOk cells sensors (Take s) = ltb s sensors
-opOk cells sensors (Sum a b) = ltb a cells && ltb b cells
-opOk cells sensors (Diff a b) = ltb a cells && ltb b cells
-opOk cells sensors (Scale a factor) = ltb a cells && finite factor
-opOk cells sensors (Limit a low high) = ltb a cells && (finite low && finite high && le low high)
-opOk cells sensors (Wind a law) = ltb a cells && (finite (law .rate) && finiteUnsigned (law .cap))
+-- what a task holds beside cells: Take's sensor is in range;
+-- "Factor, low, high, rate and cap are patterns of finite values; low ≤ high; cap has sign bit 0"
+unfoldable pub constantsOk : ℕ → Op → Bool
+constantsOk sensors (Take s) = ltb s sensors
+constantsOk sensors (Sum a b) = true
+constantsOk sensors (Diff a b) = true
+constantsOk sensors (Scale a factor) = finite factor
+constantsOk sensors (Limit a low high) = finite low && finite high && le low high
+constantsOk sensors (Wind a law) = finite (law .rate) && finiteUnsigned (law .cap)
+
+-- the cells that it reads are in range
+unfoldable pub opOk : ℕ → ℕ → ℕ → Op → Bool
+opOk cells sensors target o = allIn (λ c. ltb c cells) (reads o target) && constantsOk sensors o
 
 unfoldable pub taskOk : ℕ → ℕ → ℕ → Task → Bool
-taskOk frames cells sensors t = ltb (t .frame) frames && ltb (t .target) cells && opOk cells sensors (t .op)
+taskOk frames cells sensors t = ltb (t .frame) frames && ltb (t .target) cells && opOk cells sensors (t .target) (t .op)
 
 -- "an unused task is a Take of zeros"
 unfoldable pub isZeroTake : Op → Bool

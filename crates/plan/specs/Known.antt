@@ -1,10 +1,10 @@
 -- Document 01, 'Recovery': "A cell's being known is defined from the plan only."
-use mathlib.Core.Bool.{Bool, true, false, cond, _&&_}
-use mathlib.Core.List.{List}
+use mathlib.Core.Bool.{Bool, true, false, cond}
+use mathlib.Core.List.{List, [], _∷_}
 use Prim.Native.Nat.{ℕ, zero, suc, _+_, _*_, _/_, _%_}
 use lib.ListN.{getD, set, replicate}
 use lib.Dec.{eqb}
-use Rattle.array.specs.Index.{allBelow}
+use Rattle.array.specs.Index.{allBelow, allIn}
 use Rattle.plan.specs.declared.Op.{Op}
 use Rattle.plan.specs.declared.Op.the-variants.{Take, Sum, Diff, Scale, Limit, Wind}
 use Rattle.plan.specs.declared.Task.{Task}
@@ -33,14 +33,18 @@ voteCell e = e % mostCells
 unfoldable pub votedIn : Plan → ℕ → ℕ → Bool
 votedIn p frame cell = getD (p .voted) (votePlace frame cell) false
 
--- whether all cells that a task reads are known: "Take reads none; Wind reads its target too"
+-- the cells that a task reads: "Take reads none; Wind reads its target too"
+unfoldable pub reads : Op → ℕ → List ℕ
+reads (Take s) target = []
+reads (Sum a b) target = a ∷ b ∷ []
+reads (Diff a b) target = a ∷ b ∷ []
+reads (Scale a factor) target = a ∷ []
+reads (Limit a low high) target = a ∷ []
+reads (Wind a law) target = a ∷ target ∷ []
+
+-- "all cells it reads are known"
 unfoldable pub readsKnown : Op → ℕ → List Bool → Bool
-readsKnown (Take s) target ks = true
-readsKnown (Sum a b) target ks = getD ks a false && getD ks b false
-readsKnown (Diff a b) target ks = getD ks a false && getD ks b false
-readsKnown (Scale a factor) target ks = getD ks a false
-readsKnown (Limit a low high) target ks = getD ks a false
-readsKnown (Wind a law) target ks = getD ks a false && getD ks target false
+readsKnown o target ks = allIn (λ c. getD ks c false) (reads o target)
 
 -- "a task's target becomes known if all cells it reads are known, unknown otherwise"
 unfoldable pub knowTask : ℕ → Task → List Bool → List Bool

@@ -30,8 +30,8 @@ pub fn header_ok(
         & (tasks <= Plan::TASKS)
 }
 
-fn op_ok(cells: usize, sensors: usize, op: Op) -> bool
-    ensures { λ r. ⌜ r ≡ opOk cells sensors op ⌝ }
+fn op_ok(cells: usize, sensors: usize, target: usize, op: Op) -> bool
+    ensures { λ r. ⌜ r ≡ opOk cells sensors target op ⌝ }
 {
     match op {
         Op::Take(s) => s < sensors,
@@ -42,6 +42,7 @@ fn op_ok(cells: usize, sensors: usize, op: Op) -> bool
             (a < cells) & (pattern::is_finite(low) & pattern::is_finite(high) & (low <= high))
         }
         Op::Wind(a, law) => (a < cells)
+            & (target < cells)
             & (pattern::is_finite(law.rate) & pattern::is_finite_unsigned(law.cap)),
     }
 }
@@ -63,7 +64,8 @@ pub fn task_ok(frames: usize, cells: usize, sensors: usize, t: Task) -> bool
     ensures { λ r. ⌜ r ≡ taskOk frames cells sensors t ⌝ }
 {
     let op = t.op;
-    (t.frame < frames) & (t.target < cells) & op_ok(cells, sensors, op)
+    let target = t.target;
+    (t.frame < frames) & (target < cells) & op_ok(cells, sensors, target, op)
 }
 
 fn is_unused(t: Task) -> bool

@@ -1,14 +1,14 @@
 -- The short table holds, by computation.
 use mathlib.Core.Path.{refl}
 use lib.Ieee.{ofBits, toBits, lt, isNan, add}
-use Rattle.array.specs.Index.{howMany, allBelow, fill, joined}
+use Rattle.array.specs.Index.{howMany, allBelow, allIn, fill, joined}
 use Rattle.array.specs.Word.{be, bytes}
 use Rattle.pattern.specs.Pattern.{sumOf, limitOf}
 use Rattle.numeral.specs.Numeral.{decimal, wellFormed, numeralOf}
 use Rattle.column.specs.Column.{dropBlanks, numberOf, mark, front, column}
 use Rattle.column.specs.Row.{row, numbersFrom, numbersOf}
-use Rattle.plan.specs.Known.{votedIn, readsKnown, knowTask, knowTasks, knowVoted, knowFrame, known, allKnown, periodTo, period}
-use Rattle.plan.specs.Accepted.{headerOk, opOk, taskOk}
+use Rattle.plan.specs.Known.{votedIn, reads, readsKnown, knowTask, knowTasks, knowVoted, knowFrame, known, allKnown, periodTo, period}
+use Rattle.plan.specs.Accepted.{headerOk, constantsOk, opOk, taskOk}
 use Rattle.text.specs.Line.{numbersAt, lineAt, isTask}
 use Rattle.text.specs.Written.{written}
 use Rattle.text.specs.Meant.{opOf, taskOf, headerWith, initialWith, countWith, tasksWith, votedWith, actuatorsWith, withLine, planTo, planOf}
@@ -22,9 +22,9 @@ use Rattle.short_table.specs.ShortTable.{linesK, linesTake, planK, planT
 
 pub short-table : ShortTable
 unfolding linesK linesTake planK planTake mailbox countersVoted cellsVoted planeOf late
-    howMany allBelow fill joined be bytes ofBits toBits lt isNan add sumOf limitOf
+    howMany allBelow allIn fill joined be bytes ofBits toBits lt isNan add sumOf limitOf
     dropBlanks decimal wellFormed numeralOf numberOf mark front column row numbersFrom numbersOf
-    votedIn readsKnown knowTask knowTasks knowVoted knowFrame known allKnown periodTo period headerOk opOk taskOk
+    votedIn reads readsKnown knowTask knowTasks knowVoted knowFrame known allKnown periodTo period headerOk constantsOk opOk taskOk
     numbersAt lineAt isTask written opOf taskOf headerWith initialWith countWith tasksWith votedWith actuatorsWith withLine planTo planOf
     lengthOk isHeader afterCells taskInOrder voteInOrder actuatorInOrder inOrder taskZeros inRange rulesOf formOrRules lineRefusal firstRefusal
     isLast endRefusal periodRefusal linesRefusal textRefusal unlessRefused readAnswer

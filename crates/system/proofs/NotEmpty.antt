@@ -9,7 +9,7 @@ use native.Mathlib.Omega.{arith}
 use lib.Dec.{lit<}
 use lib.Ieee.{ofBits, toBits, isNan, add}
 use lib.ListN.{getD, set, take, replicate}
-use Rattle.array.specs.Index.{howMany, allBelow, fill, joined, from}
+use Rattle.array.specs.Index.{howMany, allBelow, allIn, fill, joined, from}
 use Rattle.array.specs.Word.{be, bytes}
 use Rattle.array.specs.Bit.{bit}
 use Rattle.array.proofs.TestLaws.{clash, and-false-right}
@@ -17,8 +17,8 @@ use Rattle.pattern.specs.Pattern.{sumOf}
 use Rattle.answer.specs.declared.Answer.the-variants.{Done, InvalidPlan, WrongLength, MaskOrCount}
 use Rattle.plan.specs.declared.Op.the-variants.{Take, Sum}
 use Rattle.plan.specs.declared.Plan.{Plan}
-use Rattle.plan.specs.Known.{unusedTask, votedIn, readsKnown, knowTask, knowTasks, knowVoted, knowFrame, known, allKnown, periodTo, period}
-use Rattle.plan.specs.Accepted.{headerOk, opOk, taskOk, isZeroTake, isUnused, notFalling, taskEntry, initialEntry, voteEntry, actuatorEntry, entriesOk, opStorable, storable, wellFormed, accepted}
+use Rattle.plan.specs.Known.{unusedTask, votedIn, reads, readsKnown, knowTask, knowTasks, knowVoted, knowFrame, known, allKnown, periodTo, period}
+use Rattle.plan.specs.Accepted.{headerOk, constantsOk, opOk, taskOk, isZeroTake, isUnused, notFalling, taskEntry, initialEntry, voteEntry, actuatorEntry, entriesOk, opStorable, storable, wellFormed, accepted}
 use Rattle.task.specs.Task.{opValue, runTask, runTasks}
 use Rattle.ballot.specs.Majority.{holders, firstShared, majority, orOwn}
 use Rattle.memory.specs.Node.{poweredOn, computed, before, sentCell, messageOf, counterIn, cellIn, votedCounter, votedCell, voted, setpoint}
@@ -61,12 +61,12 @@ planZ : Plan
 planZ = plan noVotes
 
 planK-period : period planK ≡ 3
-unfolding planK plan noVotes period periodTo allKnown known knowFrame knowVoted knowTasks knowTask readsKnown votedIn allBelow
+unfolding planK plan noVotes period periodTo allKnown known knowFrame knowVoted knowTasks knowTask readsKnown reads votedIn allBelow allIn
 planK-period = refl
 
 planK-wellFormed : wellFormed planK ≡ true
-unfolding planK plan noVotes wellFormed storable headerOk entriesOk taskEntry taskOk opOk isUnused isZeroTake notFalling initialEntry voteEntry actuatorEntry
-    opStorable votedIn allBelow
+unfolding planK plan noVotes wellFormed storable headerOk entriesOk taskEntry taskOk opOk constantsOk reads isUnused isZeroTake notFalling initialEntry voteEntry actuatorEntry
+    opStorable votedIn allBelow allIn
 planK-wellFormed = refl
 
 pub planK-accepted : accepted planK ≡ true
@@ -74,7 +74,7 @@ unfolding accepted
 planK-accepted = rw (planK-wellFormed, planK-period)
 
 planZ-period : period planZ ≡ 0
-unfolding planZ plan noVotes period periodTo allKnown known knowFrame knowVoted knowTasks knowTask readsKnown votedIn allBelow
+unfolding planZ plan noVotes period periodTo allKnown known knowFrame knowVoted knowTasks knowTask readsKnown reads votedIn allBelow allIn
 planZ-period = refl
 
 planZ-refused : accepted planZ ≡ false
@@ -127,7 +127,7 @@ runK-plan = (inl refl, (inl refl, (inl refl, (inl refl, (inl refl, (inl refl, tt
 
 pub runK-premise : Premise planK runK []
 unfolding Premise MostGood goodIn isFrame callLengths lengthsOk maskOk runK call filled bit howMany
-    planK plan noVotes period periodTo allKnown known knowFrame knowVoted knowTasks knowTask readsKnown votedIn allBelow
+    planK plan noVotes period periodTo allKnown known knowFrame knowVoted knowTasks knowTask readsKnown reads votedIn allBelow allIn
 runK-premise = rw planK-accepted (λ e. lit< tt, (λ e. lit< tt, (λ e. lit< tt, (λ e. lit< tt, (λ e. lit< tt, (λ e. lit< tt, tt))))))
 
 runK-single :
@@ -174,7 +174,7 @@ mixed-plan = (inl refl, (inr planZ-refused, (inl refl, (inl refl, (inl refl, (in
 
 pub mixed-premise : Premise planK mixed []
 unfolding Premise MostGood goodIn isFrame callLengths lengthsOk maskOk mixed call varied filled bit howMany
-    planK planZ plan noVotes period periodTo allKnown known knowFrame knowVoted knowTasks knowTask readsKnown votedIn allBelow
+    planK planZ plan noVotes period periodTo allKnown known knowFrame knowVoted knowTasks knowTask readsKnown reads votedIn allBelow allIn
 mixed-premise =
     rw (planK-accepted, planZ-refused)
     (λ e. lit< tt, (refused, (λ e. lit< tt, (refused, (λ e. lit< tt, (refused, (λ e. lit< tt, (λ e. lit< tt, (λ e. lit< tt, tt)))))))))
@@ -195,7 +195,7 @@ mixed-refusals = demand3 planK planK-accepted mixed mixed-plan mixed-premise .re
 
 mixed-good : goodIn 0 (take (period planK) (masks mixed [])) ≡ true
 unfolding goodIn masks isFrame callLengths lengthsOk maskOk mixed call varied filled bit
-    planK planZ plan noVotes period periodTo allKnown known knowFrame knowVoted knowTasks knowTask readsKnown votedIn allBelow
+    planK planZ plan noVotes period periodTo allKnown known knowFrame knowVoted knowTasks knowTask readsKnown reads votedIn allBelow allIn
 mixed-good = rw planK-accepted refl
 
 -- node 0 has recovered
@@ -213,7 +213,7 @@ outside-places : places (powerOn planK) outside ≡ (18446744073709551615 ∷ []
 unfolding places framePlace frameRuns countsOk maskOk lengthsOk outside call filled powerOn poweredOn placeAfter memoryAfter putOut computedBy heard mailboxOf
     faultMemory faultMessage faultSetpoint plane mostHeld computed messageOf sentCell before voted votedCounter votedCell orOwn counterIn cellIn setpoint
     majority firstShared holders runTasks runTask opValue sumOf votedIn howMany fill joined from be bytes bit ofBits toBits isNan add
-    planK plan noVotes period periodTo allKnown known knowFrame knowVoted knowTasks knowTask readsKnown allBelow
+    planK plan noVotes period periodTo allKnown known knowFrame knowVoted knowTasks knowTask readsKnown reads allBelow allIn
 outside-places = rw planK-accepted refl
 
 outside-single : singlePlaces (poweredOn planK) outside ≡ (0 ∷ []) ∷ []
@@ -256,7 +256,7 @@ early-places : places (powerOn planK) early ≡ (0 ∷ []) ∷ (9221120237041090
 unfolding places next frameAnswer framePlace frameRuns countsOk maskOk lengthsOk early call filled powerOn poweredOn systemAfter placeAfter memoryAfter goodAfter
     putOut computedBy heard mailboxOf faultMemory faultMessage faultSetpoint plane mostHeld computed messageOf sentCell before voted votedCounter votedCell
     orOwn counterIn cellIn setpoint majority firstShared holders runTasks runTask opValue sumOf votedIn howMany fill joined from be bytes bit ofBits toBits
-    isNan add planK plan noVotes period periodTo allKnown known knowFrame knowVoted knowTasks knowTask readsKnown allBelow
+    isNan add planK plan noVotes period periodTo allKnown known knowFrame knowVoted knowTasks knowTask readsKnown reads allBelow allIn
 early-places = rw planK-accepted refl
 
 early-single : singlePlaces (poweredOn planK) early ≡ (0 ∷ []) ∷ (one ∷ []) ∷ []

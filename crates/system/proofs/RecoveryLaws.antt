@@ -10,7 +10,7 @@ use Rattle.plan.specs.declared.Op.{Op}
 use Rattle.plan.specs.declared.Op.the-variants.{Wind}
 use Rattle.plan.specs.declared.Task.{Task}
 use Rattle.plan.specs.declared.Plan.{Plan}
-use Rattle.plan.specs.Known.{taskAt, votedIn, readsKnown, knowTask, knowTasks, knowVoted, knowFrame, noneKnown, known, allKnown, periodTo, period}
+use Rattle.plan.specs.Known.{taskAt, votedIn, reads, readsKnown, knowTask, knowTasks, knowVoted, knowFrame, noneKnown, known, allKnown, periodTo, period}
 
 -- equal but for the constants of a Wind
 pub data SameOp : Op → Op → Type 0 where
@@ -90,7 +90,7 @@ recovery-trans a b =
 -- ---- the known cells
 
 reads-same : {o r : Op} (t : ℕ) (ks : List Bool) → SameOp o r → readsKnown o t ks ≡ readsKnown r t ks
-unfolding readsKnown
+unfolding readsKnown reads
 reads-same t ks same-op = refl
 reads-same t ks same-wind = refl
 

@@ -1,8 +1,8 @@
 -- Laws of tasks: a task reads only the cells that it names and changes only its target; every result is a pattern;
 -- Limit and Wind leave their targets within their bounds.
 use mathlib.Core.Path.{_≡_, refl, sym, _∙_}
-use mathlib.Core.Bool.{Bool, true, false, _&&_}
-use mathlib.Core.List.{List}
+use mathlib.Core.Bool.{Bool, true, false}
+use mathlib.Core.List.{List, List·Memᴰ, List·Memᴰ·head, List·Memᴰ·tail}
 use Prim.Native.Nat.{ℕ, zero, suc, _^_, _≤_, _<_}
 use native.Mathlib.Omega.{arith}
 use lib.Dec.{T, eqb, ltb}
@@ -10,6 +10,7 @@ use lib.Ieee.{binary64, fits, le, neg}
 use lib.ListN.{length, getD, set, length-set, List·getD-eq-default}
 use lib.Seq.{getD-set-same, getD-set-other, set-out}
 use borrow.Author.Tests.{ltb-true, ltb-false, eqb-true, eqb-false, eq-eqb, ne-eqb}
+use Rattle.array.proofs.IndexLaws.{allIn-at}
 use Rattle.array.proofs.TestLaws.{split, clash, and-left, and-right}
 use Rattle.pattern.specs.Constant.{finite, finiteUnsigned, Within}
 use Rattle.pattern.proofs.PatternLaws.{sum-bound, diff-bound, scale-bound, limit-bound, wind-bound}
@@ -18,8 +19,8 @@ use Rattle.plan.specs.declared.Op.{Op}
 use Rattle.plan.specs.declared.Op.the-variants.{Take, Sum, Diff, Scale, Limit, Wind}
 use Rattle.plan.specs.declared.Task.{Task}
 use Rattle.plan.specs.declared.Plan.{Plan}
-use Rattle.plan.specs.Known.{taskAt, readsKnown, knowTask, knowTasks}
-use Rattle.plan.specs.Accepted.{opOk, opStorable}
+use Rattle.plan.specs.Known.{taskAt, reads, readsKnown, knowTask, knowTasks}
+use Rattle.plan.specs.Accepted.{opOk, constantsOk, opStorable}
 use Rattle.plan.proofs.AcceptedLaws.{Shape}
 use Rattle.task.specs.Task.{opValue, runTask, runTasks}
 
@@ -48,24 +49,32 @@ module _ (g : ℕ) (sensors : List ℕ) (t : Task) (cells : List ℕ) where
       getD (runTask g sensors t cells) (t .target) 0 ≡ opValue (t .op) (t .target) sensors cells
   runTask-target e l = rw (runTask-here e) (getD-set-same cells (t .target) _ 0 l)
 
--- ---- it reads the cells that it names: where two lists agree on the known cells, they do after it
+-- ---- it reads the cells of `reads` only
+
+module _ (a b : List ℕ) where
+  -- a and b are the same at each cell that the task reads
+  abbrev SameRead : Op → ℕ → Type 0
+  SameRead o t = (x : ℕ) → List·Memᴰ x (reads o t) → getD a x 0 ≡ getD b x 0
+
+  pub opValue-reads : (o : Op) (t : ℕ) (sensors : List ℕ) → SameRead o t → opValue o t sensors a ≡ opValue o t sensors b
+  unfolding opValue reads
+  opValue-reads (Take s) t sensors h = refl
+  opValue-reads (Sum x y) t sensors h = rw (h x (List·Memᴰ·head refl), h y (List·Memᴰ·tail (List·Memᴰ·head refl)))
+  opValue-reads (Diff x y) t sensors h = rw (h x (List·Memᴰ·head refl), h y (List·Memᴰ·tail (List·Memᴰ·head refl)))
+  opValue-reads (Scale x factor) t sensors h = rw (h x (List·Memᴰ·head refl))
+  opValue-reads (Limit x low high) t sensors h = rw (h x (List·Memᴰ·head refl))
+  opValue-reads (Wind x law) t sensors h = rw (h x (List·Memᴰ·head refl), h t (List·Memᴰ·tail (List·Memᴰ·head refl)))
+
+-- where two lists agree on the known cells, they do after it
 
 -- a and b are the same at each cell that ks knows
 abbrev pub Agree : List Bool → List ℕ → List ℕ → Type 0
 Agree ks a b = (x : ℕ) → getD ks x false ≡ true → getD a x 0 ≡ getD b x 0
 
 module _ (ks : List Bool) (a b : List ℕ) (same : Agree ks a b) where
-  both : (x y : ℕ) → (getD ks x false && getD ks y false) ≡ true → (getD a x 0 ≡ getD b x 0) × (getD a y 0 ≡ getD b y 0)
-  both x y e = (same x (and-left _ _ e), same y (and-right (getD ks x false) _ e))
-
   pub opValue-agree : (o : Op) (t : ℕ) (sensors : List ℕ) → readsKnown o t ks ≡ true → opValue o t sensors a ≡ opValue o t sensors b
-  unfolding opValue readsKnown
-  opValue-agree (Take s) t sensors r = refl
-  opValue-agree (Sum x y) t sensors r = rw (both x y r .0, both x y r .1)
-  opValue-agree (Diff x y) t sensors r = rw (both x y r .0, both x y r .1)
-  opValue-agree (Scale x factor) t sensors r = rw (same x r)
-  opValue-agree (Limit x low high) t sensors r = rw (same x r)
-  opValue-agree (Wind x law) t sensors r = rw (both x t r .0, both x t r .1)
+  unfolding readsKnown
+  opValue-agree o t sensors r = opValue-reads a b o t sensors (λ x i. same x (allIn-at (λ c. getD ks c false) (reads o t) r i))
 
   module _ (t : ℕ) (r : Bool) (v w : ℕ) (size : length a ≡ length b) (new : r ≡ true → v ≡ w) where
     -- only a value that agrees is stored as known
@@ -183,8 +192,8 @@ InBounds (Limit a low high) r = Within low high r
 InBounds (Wind a law) r = Within (neg (law .cap)) (law .cap) r
 
 pub opValue-within :
-    (n m : ℕ) (o : Op) (t : ℕ) (sensors cells : List ℕ) → opOk n m o ≡ true → opStorable o ≡ true → InBounds o (opValue o t sensors cells)
-unfolding opOk opStorable opValue
+    (n m : ℕ) (o : Op) (t : ℕ) (sensors cells : List ℕ) → opOk n m t o ≡ true → opStorable o ≡ true → InBounds o (opValue o t sensors cells)
+unfolding opOk constantsOk opStorable opValue
 opValue-within n m (Take s) t sensors cells k f = tt
 opValue-within n m (Sum a b) t sensors cells k f = tt
 opValue-within n m (Diff a b) t sensors cells k f = tt

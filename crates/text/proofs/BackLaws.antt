@@ -13,7 +13,7 @@ use lib.Ieee.Bits.{ofBits-toBits}
 use lib.ListN.{length, getD, length-append, List·getD-append, List·getD-eq-default}
 use lib.Seq.{getD-append-seam, ext-getD}
 use borrow.Author.Tests.{ltb-true, ltb-false, lt-ltb, le-leb, eq-eqb, ne-eqb}
-use Rattle.array.specs.Index.{joined, fill}
+use Rattle.array.specs.Index.{allIn, joined, fill}
 use Rattle.array.proofs.TestLaws.{split, and-left, and-right, and-both}
 use Rattle.array.proofs.PlacesLaws.{fill-length, fill-in, fill-out, fill-kept}
 use Rattle.column.specs.Row.{Room}
@@ -24,8 +24,8 @@ use Rattle.plan.specs.declared.Op.the-variants.{Take, Sum, Diff, Scale, Limit, 
 use Rattle.plan.specs.declared.Task.{Task}
 use Rattle.plan.specs.declared.Plan.{Plan}
 use Rattle.plan.specs.Limits.{mostFrames, mostCells, mostSensors, mostTasks}
-use Rattle.plan.specs.Known.{unusedTask, taskAt, votePlace, voteFrame, voteCell, votedIn}
-use Rattle.plan.specs.Accepted.{headerOk, opOk, taskOk, opStorable, wellFormed}
+use Rattle.plan.specs.Known.{unusedTask, taskAt, votePlace, voteFrame, voteCell, votedIn, reads}
+use Rattle.plan.specs.Accepted.{headerOk, constantsOk, opOk, taskOk, opStorable, wellFormed}
 use Rattle.plan.proofs.AcceptedLaws.{Shape, shape-of}
 use Rattle.text.specs.Line.{widths, lineSize, mostLines, lineCount, numbersAt, lineAt, kindOf, second, isTask, cellKind, voteKind, actuatorKind}
 use Rattle.text.specs.Meant.{zeroPlan, opOf, taskOf, withLine, planTo, planOf}
@@ -119,20 +119,21 @@ module _ (P : List ℕ → Type 0) where
 fits-small : (x : Float) → fits binary64 x ≡ true → patternOf x < 2 ^ 64
 fits-small x f = pattern-bound x (subst T (sym f) tt)
 
+-- a test that is one of several joined by `&&`
+ruleset joint = (and-left, and-right)
+
 op-room :
-    (cells sensors f g : ℕ) (o : Op) → cells ≤ mostCells → sensors ≤ mostSensors → f < mostFrames → g < mostCells → opOk cells sensors o ≡ true → opStorable o ≡ true
+    (cells sensors f g : ℕ) (o : Op) → cells ≤ mostCells → sensors ≤ mostSensors → f < mostFrames → g < mostCells → opOk cells sensors g o ≡ true → opStorable o ≡ true
     → Room widths (opLine f g o)
-unfolding opLine opOk opStorable
+unfolding opLine opOk constantsOk reads allIn opStorable
 op-room cells sensors f g (Take s) c n lf lg e w = omega (arith, ltb-true s sensors e)
-op-room cells sensors f g (Sum a b) c n lf lg e w =
-    omega (arith, ltb-true a cells (and-left _ _ e), ltb-true b cells (and-right (ltb a cells) _ e))
-op-room cells sensors f g (Diff a b) c n lf lg e w =
-    omega (arith, ltb-true a cells (and-left _ _ e), ltb-true b cells (and-right (ltb a cells) _ e))
-op-room cells sensors f g (Scale a factor) c n lf lg e w = omega (arith, ltb-true a cells (and-left _ _ e), fits-small factor w)
+op-room cells sensors f g (Sum a b) c n lf lg e w = omega (arith, ltb-true a cells (search joint), ltb-true b cells (search joint))
+op-room cells sensors f g (Diff a b) c n lf lg e w = omega (arith, ltb-true a cells (search joint), ltb-true b cells (search joint))
+op-room cells sensors f g (Scale a factor) c n lf lg e w = omega (arith, ltb-true a cells (search joint), fits-small factor w)
 op-room cells sensors f g (Limit a low high) c n lf lg e w =
-    omega (arith, ltb-true a cells (and-left _ _ e), fits-small low (and-left _ _ w), fits-small high (and-right (fits binary64 low) _ w))
+    omega (arith, ltb-true a cells (search joint), fits-small low (and-left _ _ w), fits-small high (and-right (fits binary64 low) _ w))
 op-room cells sensors f g (Wind a law) c n lf lg e w =
-    omega (arith, ltb-true a cells (and-left _ _ e), fits-small (law .rate) (and-left _ _ w), fits-small (law .cap) (and-right (fits binary64 (law .rate)) _ w))
+    omega (arith, ltb-true a cells (search joint), fits-small (law .rate) (and-left _ _ w), fits-small (law .cap) (and-right (fits binary64 (law .rate)) _ w))
 
 module _ (p : Plan) (w : Shape p) where
   task-room : (k : ℕ) → k < p .«task_count» → Room widths (taskLine (taskAt p k))

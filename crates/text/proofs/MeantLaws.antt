@@ -1,11 +1,11 @@
 -- The record that a text's first lines mean, and the task of a line.
 use mathlib.Core.Path.{_≡_, refl, sym, _∙_}
-use mathlib.Core.Bool.{Bool, true, false, cond, _&&_}
+use mathlib.Core.Bool.{Bool, true, false, cond}
 use mathlib.Core.List.{List, [], _∷_}
 use Prim.Native.Nat.{ℕ, zero, suc, _+_, _*_, _^_, _≤_, _<_}
 use native.Mathlib.Omega.{arith}
 use native.Mathlib.Numerals.{add-one}
-use lib.Dec.{eqb, leb, ltb}
+use lib.Dec.{eqb, leb}
 use lib.ListN.{length, set, length-set, length-replicate}
 use lib.Ieee.{Float, binary64, fits}
 use lib.Ieee.Bits.{is-true, ofBits-fits, toBits-ofBits}
@@ -18,7 +18,7 @@ use Rattle.plan.specs.declared.Task.{Task}
 use Rattle.plan.specs.declared.Plan.{Plan}
 use Rattle.plan.specs.Limits.{mostFrames, mostCells, mostTasks, mostActuators}
 use Rattle.plan.specs.Known.{unusedTask, votePlace}
-use Rattle.plan.specs.Accepted.{opOk, taskOk, opStorable}
+use Rattle.plan.specs.Accepted.{constantsOk, opOk, taskOk, opStorable}
 use Rattle.text.specs.Line.{lineAt, kindOf, second, third, fifth, isTask, cellKind, takeKind, windKind, voteKind, actuatorKind}
 use Rattle.text.specs.Meant.{zeroPlan, opOf, taskOf, headerWith, initialWith, countWith, tasksWith, votedWith, actuatorsWith, withLine, planTo}
 use Rattle.text.specs.Written.{opLine, taskLine}
@@ -127,43 +127,42 @@ module _ (frames cells sensors f c a b d : ℕ) (lb : b < 2 ^ 64) (ld : d < 2 ^ 
       taskLine (taskOf (k ∷ f ∷ c ∷ a ∷ b ∷ d ∷ [])) ≡ k ∷ f ∷ c ∷ a ∷ b ∷ d ∷ []
 
   back-take : Back 10
-  unfolding taskOk taskOf opOf opOk taskZeros taskLine opLine
+  unfolding taskOf opOf taskZeros taskLine opLine
   back-take o z =
       let eb : b ≡ 0 = eqb-true b 0 (and-left (eqb b 0) (eqb d 0) z) in
       let ed : d ≡ 0 = eqb-true d 0 (and-right (eqb b 0) (eqb d 0) z) in
       rw (eb, ed)
 
   back-sum : Back 11
-  unfolding taskOk taskOf opOf opOk taskZeros taskLine opLine
+  unfolding taskOf opOf taskZeros taskLine opLine
   back-sum o z = let ed : d ≡ 0 = eqb-true d 0 z in rw ed
 
   back-diff : Back 12
-  unfolding taskOk taskOf opOf opOk taskZeros taskLine opLine
+  unfolding taskOf opOf taskZeros taskLine opLine
   back-diff o z = let ed : d ≡ 0 = eqb-true d 0 z in rw ed
 
-  op-of-ok : (k : ℕ) → taskOk frames cells sensors (taskOf (k ∷ f ∷ c ∷ a ∷ b ∷ d ∷ [])) ≡ true → opOk cells sensors (opOf (k ∷ f ∷ c ∷ a ∷ b ∷ d ∷ [])) ≡ true
-  unfolding taskOk taskOf
-  op-of-ok k o = and-right (ltb f frames && ltb c cells) _ o
+  constants-of-ok : (k : ℕ) → taskOk frames cells sensors (taskOf (k ∷ f ∷ c ∷ a ∷ b ∷ d ∷ [])) ≡ true → constantsOk sensors (opOf (k ∷ f ∷ c ∷ a ∷ b ∷ d ∷ [])) ≡ true
+  unfolding taskOk opOk taskOf
+  constants-of-ok k o = search (and-left, and-right)
 
   back-scale : Back 13
-  unfolding taskOf opOf opOk taskZeros taskLine opLine
+  unfolding taskOf opOf constantsOk taskZeros taskLine opLine
   back-scale o z =
       let ed : d ≡ 0 = eqb-true d 0 z in
-      let fb : finite (valueOf b) ≡ true = and-right (ltb a cells) (finite (valueOf b)) (op-of-ok 13 o) in
-      rw (ed, pattern-of-value b lb fb)
+      rw (ed, pattern-of-value b lb (constants-of-ok 13 o))
 
   back-limit : Back 14
-  unfolding taskOf opOf opOk taskZeros taskLine opLine
+  unfolding taskOf opOf constantsOk taskZeros taskLine opLine
   back-limit o z =
-      let r = and-right (ltb a cells) _ (op-of-ok 14 o) in
+      let r = constants-of-ok 14 o in
       let fb : finite (valueOf b) ≡ true = search (and-left, and-right) in
       let fd : finite (valueOf d) ≡ true = search (and-left, and-right) in
       rw (pattern-of-value b lb fb, pattern-of-value d ld fd)
 
   back-wind : Back 15
-  unfolding taskOf opOf opOk taskZeros taskLine opLine
+  unfolding taskOf opOf constantsOk taskZeros taskLine opLine
   back-wind o z =
-      let r = and-right (ltb a cells) _ (op-of-ok 15 o) in
+      let r = constants-of-ok 15 o in
       let fb : finite (valueOf b) ≡ true = and-left (finite (valueOf b)) (finiteUnsigned (valueOf d)) r in
       let fd : finite (valueOf d) ≡ true = finite-unsigned (valueOf d) (and-right (finite (valueOf b)) (finiteUnsigned (valueOf d)) r) in
       rw (pattern-of-value b lb fb, pattern-of-value d ld fd)

@@ -1,7 +1,7 @@
 -- The code's walk to the recovery period follows `known` from every first frame, and ends at `period`.
 use mathlib.Core.Path.{_≡_, refl, sym, ap, _∙_}
-use mathlib.Core.Bool.{Bool, true, false, cond, _&&_, _||_}
-use mathlib.Core.List.{List}
+use mathlib.Core.Bool.{Bool, true, false, cond, _&&_, _||_, and-true}
+use mathlib.Core.List.{List, [], _∷_}
 use mathlib.Core.Logic.{_⊎_, inl, inr, ⊎-elim}
 use Prim.Native.Nat.{ℕ, zero, suc, _+_, _-_, _*_, _%_, _^_, _≤_, _<_, min}
 use native.Mathlib.Omega.{arith}
@@ -11,18 +11,18 @@ use lib.Dec.{eqb, ltb}
 use lib.ListN.{length, getD, set, replicate, length-set, getD-replicate, List·getD-eq-default}
 use lib.Seq.{getD-set-same, getD-set-other}
 use borrow.Author.Tests.{eqb-true, eqb-false, ltb-true, ltb-false, lt-ltb, le-ltb}
+use Rattle.array.specs.Index.{allIn}
 use Rattle.array.specs.Bit.{bit}
 use Rattle.array.proofs.TestLaws.{split, clash, and-left, and-right, and-both}
 use Rattle.array.proofs.IndexLaws.{allBelow-at, allBelow-all}
 use Rattle.array.proofs.PlacesLaws.{fill-in, fill-out, fill-length}
 use Rattle.array.proofs.BitLaws.{bit-and, bit-or, bit-ones, bit-none}
 use Rattle.plan.specs.declared.Op.{Op}
-use Rattle.plan.specs.declared.Op.the-variants.{Take, Sum, Diff, Scale, Limit, Wind}
 use Rattle.plan.specs.declared.Task.{Task}
 use Rattle.plan.specs.declared.Plan.{Plan}
 use Rattle.walk.specs.declared.step.Walk.{Walk}
-use Rattle.plan.specs.Known.{taskAt, votedIn, readsKnown, knowTask, knowTasks, knowVoted, knowFrame, known, noneKnown, allKnown, period}
-use Rattle.walk.specs.Walk.{walkStart, wordsStart, readWord, afterTask, withVotes, whole, longer, Closed}
+use Rattle.plan.specs.Known.{taskAt, votedIn, reads, readsKnown, knowTask, knowTasks, knowVoted, knowFrame, known, noneKnown, allKnown, period}
+use Rattle.walk.specs.Walk.{walkStart, wordsStart, allWords, readWord, afterTask, withVotes, whole, longer, Closed}
 use Rattle.plan.proofs.AcceptedLaws.{Shape}
 use Rattle.plan.proofs.KnownLaws.{All, task-elsewhere, task-target, task-other, voted-is, voted-past, tasks-length, known-first, known-next, known-length, none-known}
 use Rattle.plan.proofs.PeriodLaws.{allKnown-at, allKnown-all, all-stays, allKnown-stays, period-is, period-none}
@@ -32,10 +32,6 @@ use Rattle.plan.proofs.PeriodLaws.{allKnown-at, allKnown-all, all-stays, allKno
 both-and : (b x y : Bool) → ((b && x) && (b && y)) ≡ (b && (x && y))
 both-and true x y = refl
 both-and false x y = refl
-
-and-true : (b : Bool) → (b && true) ≡ b
-and-true true = refl
-and-true false = refl
 
 -- ---- a word's bit for one first frame
 
@@ -47,19 +43,17 @@ begun-bit frames time g l =
     (λ t. lt-ltb g (min time frames) (omega (arith, ltb-true g time t)) ∙ sym t)
     (λ t. le-ltb g (min time frames) (omega (arith, ltb-false g time t)) ∙ sym t)
 
--- where the words say what is known from a first frame that is begun (b), so does the word that a task gives
-read-bit :
-    (o : Op) (target begun g : ℕ) (b : Bool) (ws : List ℕ) (ks : List Bool) →
-    ((c : ℕ) → bit (getD ws c 0) g ≡ (b && getD ks c false)) →
-    bit begun g ≡ b →
-    bit (readWord o target begun ws) g ≡ (b && readsKnown o target ks)
-unfolding readWord readsKnown
-read-bit (Take s) target begun g b ws ks h e = e ∙ sym (and-true b)
-read-bit (Sum x y) target begun g b ws ks h e = bit-and (getD ws x 0) (getD ws y 0) g ∙ rw (h x, h y) (both-and b (getD ks x false) (getD ks y false))
-read-bit (Diff x y) target begun g b ws ks h e = bit-and (getD ws x 0) (getD ws y 0) g ∙ rw (h x, h y) (both-and b (getD ks x false) (getD ks y false))
-read-bit (Scale x factor) target begun g b ws ks h e = h x
-read-bit (Limit x low high) target begun g b ws ks h e = h x
-read-bit (Wind x law) target begun g b ws ks h e = bit-and (getD ws x 0) (getD ws target 0) g ∙ rw (h x, h target) (both-and b (getD ks x false) (getD ks target false))
+-- where the words say what is known from a first frame that is begun (b), so does the word of a list of cells
+module _ (begun g : ℕ) (b : Bool) (ws : List ℕ) (ks : List Bool) (h : (c : ℕ) → bit (getD ws c 0) g ≡ (b && getD ks c false)) (e : bit begun g ≡ b) where
+  words-bit : (l : List ℕ) → bit (allWords begun ws l) g ≡ (b && allIn (λ c. getD ks c false) l)
+  unfolding allWords allIn
+  words-bit [] = e ∙ sym (and-true b)
+  words-bit (c ∷ l) = bit-and (getD ws c 0) (allWords begun ws l) g ∙ rw (h c, words-bit l) (both-and b (getD ks c false) _)
+
+  -- and the word that a task gives
+  read-bit : (o : Op) (target : ℕ) → bit (readWord o target begun ws) g ≡ (b && readsKnown o target ks)
+  unfolding readWord readsKnown
+  read-bit o target = words-bit (reads o target)
 
 -- ---- tasks of other frames change nothing
 
@@ -168,7 +162,7 @@ module _ (p : Plan) (s : Shape p) where
         same : bit (getD (set ws (t .target) v) (t .target) 0) g ≡ (ltb g (w .time) && getD (knowTask (w .frame) t ks) (t .target) false)
         same =
             ap (λ (x : ℕ). bit x g) (getD-set-same ws (t .target) v 0 (omega (arith, h .size, s .target i l, s .cells-le)))
-            ∙ read-bit (t .op) (t .target) _ g (ltb g (w .time)) ws ks (h .words g gl) (begun-bit (p .frames) (w .time) g gl)
+            ∙ read-bit _ g (ltb g (w .time)) ws ks (h .words g gl) (begun-bit (p .frames) (w .time) g gl) (t .op) (t .target)
             ∙ ap (λ (b : Bool). ltb g (w .time) && b) (sym (task-target (w .frame) t ks here (omega (arith, full, s .target i l, s .cells-le))))
 
         other : (c ≡ t .target → ⊥) → bit (getD (set ws (t .target) v) c 0) g ≡ (ltb g (w .time) && getD (knowTask (w .frame) t ks) c false)

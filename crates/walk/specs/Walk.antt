@@ -2,7 +2,7 @@
 -- the laws of proofs/WalkLaws.antt join them to `known` and `period`.
 use mathlib.Core.Path.{_≡_}
 use mathlib.Core.Bool.{Bool, true, false, cond, _&&_}
-use mathlib.Core.List.{List}
+use mathlib.Core.List.{List, [], _∷_}
 use Prim.Native.Nat.{ℕ, _+_, _-_, _*_, _^_, _≤_, _<_, min}
 use lib.ListN.{getD, set, replicate}
 use lib.Dec.{ltb}
@@ -10,10 +10,10 @@ use lib.Bits.{bitAnd, bitOr}
 use Rattle.array.specs.Index.{allBelow, fill}
 use Rattle.array.specs.Bit.{bit}
 use Rattle.plan.specs.declared.Op.{Op}
-use Rattle.plan.specs.declared.Op.the-variants.{Take, Sum, Diff, Scale, Limit, Wind}
 use Rattle.plan.specs.declared.Task.{Task}
 use Rattle.walk.specs.declared.step.Walk.{Walk}
 use Rattle.plan.specs.Limits.{mostCells}
+use Rattle.plan.specs.Known.{reads}
 
 abbrev pub walkStart : Walk
 walkStart = record { low = 0; longest = 0; time = 0; frame = 0 }
@@ -21,14 +21,14 @@ walkStart = record { low = 0; longest = 0; time = 0; frame = 0 }
 abbrev pub wordsStart : List ℕ
 wordsStart = replicate mostCells 0
 
--- the first frames from which all cells that a task reads are known
+-- the first frames, of those begun, from which all cells of a list are known
+unfoldable pub allWords : ℕ → List ℕ → List ℕ → ℕ
+allWords begun ws [] = begun
+allWords begun ws (c ∷ l) = bitAnd (getD ws c 0) (allWords begun ws l)
+
+-- and from which all cells that a task reads are
 unfoldable pub readWord : Op → ℕ → ℕ → List ℕ → ℕ
-readWord (Take s) target begun ws = begun
-readWord (Sum a b) target begun ws = bitAnd (getD ws a 0) (getD ws b 0)
-readWord (Diff a b) target begun ws = bitAnd (getD ws a 0) (getD ws b 0)
-readWord (Scale a factor) target begun ws = getD ws a 0
-readWord (Limit a low high) target begun ws = getD ws a 0
-readWord (Wind a law) target begun ws = bitAnd (getD ws a 0) (getD ws target 0)
+readWord o target begun ws = allWords begun ws (reads o target)
 
 -- the words after a task
 unfoldable pub afterTask : ℕ → List ℕ → Task → List ℕ

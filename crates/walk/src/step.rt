@@ -44,17 +44,17 @@ fn word(words: &[u16], cell: usize) -> u16
     0
 }
 
-// The first frames from which all cells that a task reads are known; begun has those that are begun.
+// The first frames, of those begun, from which all cells that a task reads are known.
 fn read_word(op: Op, target: usize, begun: u16, words: &[u16]) -> u16
     ensures { λ r. ⌜ r ≡ readWord op target begun (now (words .entry)) ⌝ }
 {
     match op {
         Op::Take(_) => begun,
-        Op::Sum(a, b) => word(words, a) & word(words, b),
-        Op::Diff(a, b) => word(words, a) & word(words, b),
-        Op::Scale(a, _) => word(words, a),
-        Op::Limit(a, _, _) => word(words, a),
-        Op::Wind(a, _) => word(words, a) & word(words, target),
+        Op::Sum(a, b) => word(words, a) & (word(words, b) & begun),
+        Op::Diff(a, b) => word(words, a) & (word(words, b) & begun),
+        Op::Scale(a, _) => word(words, a) & begun,
+        Op::Limit(a, _, _) => word(words, a) & begun,
+        Op::Wind(a, _) => word(words, a) & (word(words, target) & begun),
     }
 }
 

@@ -1,32 +1,36 @@
 -- `plan::entries::op_ok` meets its contract: one arm for each kind of task.
+use mathlib.Core.Bool.{and-true}
 use borrow.Author.Needs.{needs}
-use Rattle.plan.specs.Accepted.{opOk}
+use Rattle.array.specs.Index.{allIn}
+use Rattle.plan.specs.Known.{reads}
+use Rattle.plan.specs.Accepted.{opOk, constantsOk}
+use Rattle.plan.proofs.EntryLaws.{one-in, two-in}
 use Rattle.plan.proofs.entries.op_ok.Statement.{statement}
 use Rattle.plan.proofs.entries.op_ok.Tie as tie
 
 returns : tie.Need-returns
-unfolding opOk
+unfolding opOk constantsOk reads allIn
 returns c = rw (c .before .op .given .1)
 
 returns-2 : tie.Need-returns-2
-unfolding opOk
-returns-2 c = rw (c .before .op2 .given .1)
+unfolding opOk constantsOk reads
+returns-2 c = rw (c .before .op2 .given .1, and-true, two-in)
 
 returns-3 : tie.Need-returns-3
-unfolding opOk
-returns-3 c = rw (c .before .op3 .given .1)
+unfolding opOk constantsOk reads
+returns-3 c = rw (c .before .op3 .given .1, and-true, two-in)
 
 returns-4 : tie.Need-returns-4
-unfolding opOk
-returns-4 c = rw (c .before .before .op4 .given .1, c .is-finite .ensures)
+unfolding opOk constantsOk reads
+returns-4 c = rw (c .before .before .op4 .given .1, c .is-finite .ensures, one-in)
 
 returns-5 : tie.Need-returns-5
-unfolding opOk
-returns-5 c = rw (c .before .before .before .op5 .given .1, c .before .is-finite2 .ensures, c .is-finite3 .ensures)
+unfolding opOk constantsOk reads
+returns-5 c = rw (c .before .before .before .op5 .given .1, c .before .is-finite2 .ensures, c .is-finite3 .ensures, one-in)
 
 returns-6 : tie.Need-returns-6
-unfolding opOk
-returns-6 c = rw (c .before .before .before .op6 .given .1, c .before .is-finite4 .ensures, c .is-finite-unsigned .ensures)
+unfolding opOk constantsOk reads
+returns-6 c = rw (c .before .before .before .op6 .given .1, c .before .is-finite4 .ensures, c .is-finite-unsigned .ensures, two-in)
 
 pub op-ok-spec : {M : Type 1} → statement M
 op-ok-spec =
