@@ -205,7 +205,9 @@ pub fn task_of(l: Line) -> Task
 fn task_zeros(l: Line) -> bool
     ensures { λ r. ⌜ r ≡ taskZeros (numbersIn l) ⌝ }
 {
-    (!(l.kind == 10) | (l.fifth == 0)) & ((14 <= l.kind) | (l.sixth == 0))
+    let kind = l.kind;
+    (!(kind == 10) | (l.fifth == 0))
+        & (!((kind == 10) | (kind == 11) | (kind == 12) | (kind == 13)) | (l.sixth == 0))
 }
 
 pub fn in_range(h: Line, l: Line) -> bool

@@ -11,7 +11,7 @@ use Rattle.answer.specs.declared.Answer.the-variants.{TextLength, Malformed, He
 use Rattle.plan.specs.Limits.{mostTasks}
 use Rattle.plan.specs.Known.{period}
 use Rattle.plan.specs.Accepted.{headerOk, taskOk}
-use Rattle.text.specs.Line.{lineSize, mostLines, lineCount, numbersAt, lineAt, kindOf, second, third, fourth, fifth, sixth, isTask, headerKind, cellKind, takeKind, limitKind, voteKind, actuatorKind}
+use Rattle.text.specs.Line.{lineSize, mostLines, lineCount, numbersAt, lineAt, kindOf, second, third, fourth, fifth, sixth, isTask, headerKind, cellKind, takeKind, sumKind, diffKind, scaleKind, voteKind, actuatorKind}
 use Rattle.text.specs.Meant.{taskOf, planOf}
 
 -- "1: length 0, above 35,169, or no multiple of 57"
@@ -74,9 +74,15 @@ inOrder h j prev l =
 
 -- ---- 5: "any other index out of range, an unused column not 0, constants against the rules"
 
--- the columns that document 01's table shows as 0: of a Take the 5th, of a task but Limit and Wind the 6th
+-- the kinds of task whose 5th, and whose 6th column document 01's table shows as 0
+abbrev pub fifthUnused : ℕ → Bool
+fifthUnused kind = eqb kind takeKind
+
+abbrev pub sixthUnused : ℕ → Bool
+sixthUnused kind = eqb kind takeKind || eqb kind sumKind || eqb kind diffKind || eqb kind scaleKind
+
 unfoldable pub taskZeros : List ℕ → Bool
-taskZeros l = (not (eqb (kindOf l) takeKind) || eqb (fifth l) 0) && (leb limitKind (kindOf l) || eqb (sixth l) 0)
+taskZeros l = (not (fifthUnused (kindOf l)) || eqb (fifth l) 0) && (not (sixthUnused (kindOf l)) || eqb (sixth l) 0)
 
 unfoldable pub inRange : List ℕ → List ℕ → Bool
 inRange h l =
