@@ -21,7 +21,7 @@ pub fn header_ok(
 ) -> bool
     ensures { λ r. ⌜ r ≡ headerOk nodes frames cells sensors actuators tasks ⌝ }
 {
-    (3 <= nodes)
+    (Plan::LEAST_NODES <= nodes)
         & (nodes <= Plan::NODES)
         & ((1 <= frames) & (frames <= Plan::FRAMES))
         & ((1 <= cells) & (cells <= Plan::CELLS))

@@ -37,6 +37,8 @@ pub struct Plan {
 }
 
 impl Plan {
+    pub const LEAST_NODES: usize = 3;
+
     pub const NODES: usize = 7;
 
     pub const FRAMES: usize = 16;

@@ -24,6 +24,49 @@ pub struct Line {
     pub sixth: u64,
 }
 
+impl Line {
+    // The kinds.
+    pub const HEADER: usize = 0;
+
+    pub const CELL: usize = 1;
+
+    pub const TAKE: usize = 10;
+
+    pub const SUM: usize = 11;
+
+    pub const DIFF: usize = 12;
+
+    pub const SCALE: usize = 13;
+
+    pub const LIMIT: usize = 14;
+
+    pub const WIND: usize = 15;
+
+    pub const VOTE: usize = 20;
+
+    pub const ACTUATOR: usize = 30;
+
+    // Where the columns after the first begin, and the line feed.
+    pub const SECOND: usize = 4;
+
+    pub const THIRD: usize = 8;
+
+    pub const FOURTH: usize = 12;
+
+    pub const FIFTH: usize = 16;
+
+    pub const SIXTH: usize = 36;
+
+    pub const FEED: usize = 56;
+
+    pub const SIZE: usize = 57;
+
+    // The lines of the longest text, and its bytes.
+    pub const MOST: usize = 1 + Plan::CELLS + Plan::TASKS + Plan::VOTES + Plan::ACTUATORS;
+
+    pub const TEXT: usize = Line::SIZE * Line::MOST;
+}
+
 pub enum LineRead {
     Whole(Line),
     Malformed,
@@ -32,28 +75,28 @@ pub enum LineRead {
 pub fn read_line(line: &[u8]) -> LineRead
     ensures { λ r. ⌜ numbersRead r ≡ numbersOf widths (now (line .entry)) ⌝ }
 {
-    if line.len() != 57 {
+    if line.len() != Line::SIZE {
         return LineRead::Malformed;
     }
-    let Number::Value(kind) = column::read(line, 0, 4) else {
+    let Number::Value(kind) = column::read(line, 0, Line::SECOND) else {
         return LineRead::Malformed;
     };
-    let Number::Value(second) = column::read(line, 4, 8) else {
+    let Number::Value(second) = column::read(line, Line::SECOND, Line::THIRD) else {
         return LineRead::Malformed;
     };
-    let Number::Value(third) = column::read(line, 8, 12) else {
+    let Number::Value(third) = column::read(line, Line::THIRD, Line::FOURTH) else {
         return LineRead::Malformed;
     };
-    let Number::Value(fourth) = column::read(line, 12, 16) else {
+    let Number::Value(fourth) = column::read(line, Line::FOURTH, Line::FIFTH) else {
         return LineRead::Malformed;
     };
-    let Number::Value(fifth) = column::step::read_wide(line, 16, 36) else {
+    let Number::Value(fifth) = column::step::read_wide(line, Line::FIFTH, Line::SIXTH) else {
         return LineRead::Malformed;
     };
-    let Number::Value(sixth) = column::step::read_wide(line, 36, 56) else {
+    let Number::Value(sixth) = column::step::read_wide(line, Line::SIXTH, Line::FEED) else {
         return LineRead::Malformed;
     };
-    if line[56] != 10 {
+    if line[Line::FEED] != b'\n' {
         return LineRead::Malformed;
     }
     LineRead::Whole(Line {
@@ -69,13 +112,13 @@ pub fn read_line(line: &[u8]) -> LineRead
 pub fn is_task(kind: usize) -> bool
     ensures { λ r. ⌜ r ≡ isTask kind ⌝ }
 {
-    (10 <= kind) & (kind <= 15)
+    (Line::TAKE <= kind) & (kind <= Line::WIND)
 }
 
 pub fn is_header(l: Line) -> bool
     ensures { λ r. ⌜ r ≡ isHeader (numbersIn l) ⌝ }
 {
-    (l.kind == 0)
+    (l.kind == Line::HEADER)
         & plan::entries::header_ok(
             l.second,
             l.third,
@@ -112,7 +155,7 @@ fn task_in_order(h: Line, j: usize, prev: Line, l: Line) -> bool
 fn smaller_vote(prev: Line, l: Line) -> bool
     ensures { λ r. ⌜ r ≡ smallerVote (numbersIn prev) (numbersIn l) ⌝ }
 {
-    (prev.kind == 20)
+    (prev.kind == Line::VOTE)
         & ((prev.second < l.second) | ((prev.second == l.second) & (prev.third < l.third)))
 }
 
@@ -138,9 +181,9 @@ fn actuator_in_order(h: Line, j: usize, prev: Line, l: Line) -> bool
     let number = l.second;
     let due = number < h.sixth as usize;
     if number == 0 {
-        return due & (after_cells(h, j) | (is_task(prev.kind) | (prev.kind == 20)));
+        return due & (after_cells(h, j) | (is_task(prev.kind) | (prev.kind == Line::VOTE)));
     }
-    due & ((prev.kind == 30) & follows(prev.second, number))
+    due & ((prev.kind == Line::ACTUATOR) & follows(prev.second, number))
 }
 
 pub fn in_order(h: Line, j: usize, prev: Line, l: Line) -> bool
@@ -148,7 +191,7 @@ pub fn in_order(h: Line, j: usize, prev: Line, l: Line) -> bool
 {
     let kind = l.kind;
     let cells = h.fourth;
-    if kind == 1 {
+    if kind == Line::CELL {
         return (j < cells) & (l.second == j);
     }
     if j < cells {
@@ -157,10 +200,10 @@ pub fn in_order(h: Line, j: usize, prev: Line, l: Line) -> bool
     if is_task(kind) {
         return task_in_order(h, j, prev, l);
     }
-    if kind == 20 {
+    if kind == Line::VOTE {
         return vote_in_order(h, j, prev, l);
     }
-    if kind == 30 {
+    if kind == Line::ACTUATOR {
         return actuator_in_order(h, j, prev, l);
     }
     false
@@ -171,19 +214,19 @@ fn op_of(l: Line) -> Op
 {
     let kind = l.kind;
     let a = l.fourth;
-    if kind == 11 {
+    if kind == Line::SUM {
         return Op::Sum(a, l.fifth as usize);
     }
-    if kind == 12 {
+    if kind == Line::DIFF {
         return Op::Diff(a, l.fifth as usize);
     }
-    if kind == 13 {
+    if kind == Line::SCALE {
         return Op::Scale(a, pattern::value(l.fifth));
     }
-    if kind == 14 {
+    if kind == Line::LIMIT {
         return Op::Limit(a, pattern::value(l.fifth), pattern::value(l.sixth));
     }
-    if kind == 15 {
+    if kind == Line::WIND {
         let rate = pattern::value(l.fifth);
         let cap = pattern::value(l.sixth);
         return Op::Wind(a, WindLaw { rate, cap });
@@ -206,8 +249,9 @@ fn task_zeros(l: Line) -> bool
     ensures { λ r. ⌜ r ≡ taskZeros (numbersIn l) ⌝ }
 {
     let kind = l.kind;
-    (!(kind == 10) | (l.fifth == 0))
-        & (!((kind == 10) | (kind == 11) | (kind == 12) | (kind == 13)) | (l.sixth == 0))
+    let take = kind == Line::TAKE;
+    let short = take | (kind == Line::SUM) | (kind == Line::DIFF) | (kind == Line::SCALE);
+    (!take | (l.fifth == 0)) & (!short | (l.sixth == 0))
 }
 
 pub fn in_range(h: Line, l: Line) -> bool
@@ -215,7 +259,7 @@ pub fn in_range(h: Line, l: Line) -> bool
 {
     let kind = l.kind;
     let cells = h.fourth;
-    if kind == 1 {
+    if kind == Line::CELL {
         return (l.third == 0) & (l.fourth == 0) & (l.sixth == 0);
     }
     if is_task(kind) {
@@ -223,7 +267,7 @@ pub fn in_range(h: Line, l: Line) -> bool
         return plan::entries::task_ok(h.third, cells, h.fifth as usize, t) & task_zeros(l);
     }
     let zeros = (l.fourth == 0) & (l.fifth == 0) & (l.sixth == 0);
-    if kind == 20 {
+    if kind == Line::VOTE {
         return (l.second < h.third) & (l.third < cells) & zeros;
     }
     (l.third < cells) & zeros
@@ -232,5 +276,5 @@ pub fn in_range(h: Line, l: Line) -> bool
 pub fn is_last(h: Line, l: Line) -> bool
     ensures { λ r. ⌜ r ≡ isLast (numbersIn h) (numbersIn l) ⌝ }
 {
-    (l.kind == 30) & follows(l.second, h.sixth as usize)
+    (l.kind == Line::ACTUATOR) & follows(l.second, h.sixth as usize)
 }

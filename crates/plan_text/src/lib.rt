@@ -59,7 +59,7 @@ fn refused(answer: Answer) -> PlanRead
 fn length_ok(n: usize) -> bool
     ensures { λ r. ⌜ r ≡ lengthOk n ⌝ }
 {
-    (0 < n) & (n <= 35169) & (n % 57 == 0)
+    (0 < n) & (n <= Line::TEXT) & (n % Line::SIZE == 0)
 }
 
 // A line's entry in the record, if it is of that kind.
@@ -67,7 +67,7 @@ fn store_initial(initial: &mut [u64; Plan::CELLS], l: Line)
     requires { ⌜ (l .kind ≡ cellKind → l .second < mostCells) ⌝ }
     ensures { λ _. ⌜ now (initial .exit) ≡ initialWith (numbersIn l) (now (initial .entry)) ⌝ }
 {
-    if l.kind == 1 {
+    if l.kind == Line::CELL {
         let at = l.second;
         initial[at] = l.fifth;
     }
@@ -77,7 +77,7 @@ fn store_vote(voted: &mut [bool; Plan::VOTES], l: Line)
     requires { ⌜ (l .kind ≡ voteKind → (l .second < mostFrames) × (l .third < mostCells)) ⌝ }
     ensures { λ _. ⌜ now (voted .exit) ≡ votedWith (numbersIn l) (now (voted .entry)) ⌝ }
 {
-    if l.kind == 20 {
+    if l.kind == Line::VOTE {
         let at = Plan::CELLS * l.second + l.third;
         voted[at] = true;
     }
@@ -87,7 +87,7 @@ fn store_actuator(table: &mut [usize; Plan::ACTUATORS], l: Line)
     requires { ⌜ (l .kind ≡ actuatorKind → l .second < mostActuators) ⌝ }
     ensures { λ _. ⌜ now (table .exit) ≡ actuatorsWith (numbersIn l) (now (table .entry)) ⌝ }
 {
-    if l.kind == 30 {
+    if l.kind == Line::ACTUATOR {
         let at = l.second;
         table[at] = l.third;
     }
@@ -98,7 +98,7 @@ fn read_lines(text: &[u8], h: Line) -> PlanRead
     requires { ⌜ (lengthOk (length (now text)) ≡ true) × (numbersAt (now text) 0 ≡ some (numbersIn h)) × (isHeader (numbersIn h) ≡ true) ⌝ }
     ensures { λ r. ⌜ r ≡ readAnswer (now (text .entry)) ⌝ }
 {
-    let lines = text.len() / 57;
+    let lines = text.len() / Line::SIZE;
     let mut plan = zero_plan();
     plan.nodes = h.second;
     plan.frames = h.third;
@@ -108,8 +108,8 @@ fn read_lines(text: &[u8], h: Line) -> PlanRead
     let mut prev = h;
     let mut i: usize = 1;
     while i < lines {
-        let at = 57 * i;
-        let LineRead::Whole(l) = plan_line::read_line(&text[at..at + 57]) else {
+        let at = Line::SIZE * i;
+        let LineRead::Whole(l) = plan_line::read_line(&text[at..at + Line::SIZE]) else {
             return refused(Answer::Malformed(i + 1));
         };
         if !plan_line::in_order(h, i - 1, prev, l) {
@@ -150,7 +150,7 @@ pub fn read(text: &[u8]) -> PlanRead
     if !length_ok(text.len()) {
         return refused(Answer::TextLength);
     }
-    let LineRead::Whole(h) = plan_line::read_line(&text[0..57]) else {
+    let LineRead::Whole(h) = plan_line::read_line(&text[0..Line::SIZE]) else {
         return refused(Answer::Malformed(1));
     };
     if !plan_line::is_header(h) {

@@ -36,14 +36,23 @@ fn write_line(out: &mut [u8], i: usize, l: Line)
     requires { ⌜ (lineSize * i + lineSize ≤ length (now out)) × (i ≤ mostLines) ⌝ }
     ensures { λ _. ⌜ now (out .exit) ≡ placed (now (out .entry)) (lineSize * i) (row widths (numbersIn l)) ⌝ }
 {
-    let at = 57 * i;
-    column::write(&mut out[at..at + 4], l.kind as u64);
-    column::write(&mut out[at + 4..at + 8], l.second as u64);
-    column::write(&mut out[at + 8..at + 12], l.third as u64);
-    column::write(&mut out[at + 12..at + 16], l.fourth as u64);
-    column::write(&mut out[at + 16..at + 36], l.fifth);
-    column::write(&mut out[at + 36..at + 56], l.sixth);
-    out[at + 56] = 10;
+    let at = Line::SIZE * i;
+    column::write(&mut out[at..at + Line::SECOND], l.kind as u64);
+    column::write(
+        &mut out[at + Line::SECOND..at + Line::THIRD],
+        l.second as u64,
+    );
+    column::write(
+        &mut out[at + Line::THIRD..at + Line::FOURTH],
+        l.third as u64,
+    );
+    column::write(
+        &mut out[at + Line::FOURTH..at + Line::FIFTH],
+        l.fourth as u64,
+    );
+    column::write(&mut out[at + Line::FIFTH..at + Line::SIXTH], l.fifth);
+    column::write(&mut out[at + Line::SIXTH..at + Line::FEED], l.sixth);
+    out[at + Line::FEED] = b'\n';
 }
 
 fn write_cells(initial: &[u64; Plan::CELLS], cells: usize, out: &mut [u8], from: usize)
@@ -52,7 +61,7 @@ fn write_cells(initial: &[u64; Plan::CELLS], cells: usize, out: &mut [u8], from:
 {
     let mut c: usize = 0;
     while c < cells {
-        write_line(out, from + c, numbers(1, c, 0, 0, initial[c], 0));
+        write_line(out, from + c, numbers(Line::CELL, c, 0, 0, initial[c], 0));
         c += 1;
     }
 }
@@ -62,12 +71,12 @@ fn op_line(frame: usize, target: usize, op: Op) -> Line
     ensures { λ r. ⌜ numbersIn r ≡ opLine frame target op ⌝ }
 {
     match op {
-        Op::Take(s) => numbers(10, frame, target, s, 0, 0),
-        Op::Sum(a, b) => numbers(11, frame, target, a, b as u64, 0),
-        Op::Diff(a, b) => numbers(12, frame, target, a, b as u64, 0),
-        Op::Scale(a, factor) => numbers(13, frame, target, a, pattern::pattern(factor), 0),
+        Op::Take(s) => numbers(Line::TAKE, frame, target, s, 0, 0),
+        Op::Sum(a, b) => numbers(Line::SUM, frame, target, a, b as u64, 0),
+        Op::Diff(a, b) => numbers(Line::DIFF, frame, target, a, b as u64, 0),
+        Op::Scale(a, factor) => numbers(Line::SCALE, frame, target, a, pattern::pattern(factor), 0),
         Op::Limit(a, low, high) => numbers(
-            14,
+            Line::LIMIT,
             frame,
             target,
             a,
@@ -75,7 +84,7 @@ fn op_line(frame: usize, target: usize, op: Op) -> Line
             pattern::pattern(high),
         ),
         Op::Wind(a, law) => numbers(
-            15,
+            Line::WIND,
             frame,
             target,
             a,
@@ -130,7 +139,7 @@ fn write_votes(voted: &[bool; Plan::VOTES], out: &mut [u8], from: usize) -> usiz
             write_line(
                 out,
                 i,
-                numbers(20, e / Plan::CELLS, e % Plan::CELLS, 0, 0, 0),
+                numbers(Line::VOTE, e / Plan::CELLS, e % Plan::CELLS, 0, 0, 0),
             );
             i += 1;
         }
@@ -145,7 +154,7 @@ fn write_actuators(table: &[usize; Plan::ACTUATORS], count: usize, out: &mut [u8
 {
     let mut i: usize = 0;
     while i < count {
-        write_line(out, from + i, numbers(30, i, table[i], 0, 0, 0));
+        write_line(out, from + i, numbers(Line::ACTUATOR, i, table[i], 0, 0, 0));
         i += 1;
     }
 }
@@ -158,7 +167,7 @@ pub fn text_size(plan: Plan) -> usize
     let tasks = plan.task_count;
     let actuators = plan.actuators;
     let votes = count_votes(&plan.voted);
-    57 * (1 + cells + tasks + votes + actuators)
+    Line::SIZE * (1 + cells + tasks + votes + actuators)
 }
 
 pub fn write(plan: Plan, out: &mut [u8])
@@ -172,7 +181,7 @@ pub fn write(plan: Plan, out: &mut [u8])
         out,
         0,
         numbers(
-            0,
+            Line::HEADER,
             plan.nodes,
             plan.frames,
             cells,
