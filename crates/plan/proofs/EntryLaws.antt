@@ -4,7 +4,7 @@ use mathlib.Core.Path.{_≡_, refl, sym, _∙_}
 use mathlib.Core.Logic.{_⊎_, inl, inr}
 use mathlib.Core.List.{List, [], _∷_, map}
 use mathlib.Core.Bool.{Bool, true, false, not, cond, _&&_, _||_, and-false, and-true}
-use Prim.Native.Nat.{ℕ, zero, suc, _+_, _*_, _-_, _^_, _≤_, _<_}
+use Prim.Native.Nat.{ℕ, zero, suc, _+_, _-_, _^_, _≤_, _<_}
 use native.Mathlib.Omega.{arith}
 use native.Mathlib.Nat.{not-suc-le-zero}
 use lib.ListN.{getD, length, length-map}
@@ -24,7 +24,7 @@ use Rattle.plan.specs.declared.Op.{Op}
 use Rattle.plan.specs.declared.Op.the-variants.{Take, Sum, Diff, Scale, Limit, Wind}
 use Rattle.plan.specs.declared.Task.{Task}
 use Rattle.plan.specs.declared.Plan.{Plan}
-use Rattle.plan.specs.Known.{unusedTask, taskAt, votedIn}
+use Rattle.plan.specs.Known.{unusedTask, taskAt, votePlace, votedIn}
 use Rattle.plan.specs.Accepted.{headerOk, taskOk, isUnused, notFalling, taskEntry, initialEntry, voteEntry, actuatorEntry, entriesOk, opStorable, storable, wellFormed}
 use Rattle.plan.proofs.Op as OpType
 use Rattle.plan.proofs.Task as TaskType
@@ -63,18 +63,18 @@ ltb-zero c = le-ltb c 0 (omega arith)
 
 module _ (voted : List Bool) (g : ℕ) where
   -- the places in front of a row's first free one pass
-  pub row-front : (first : ℕ) → allBelow (λ c. not (getD voted (32 * g + c) false) || ltb c first) first ≡ true
+  pub row-front : (first : ℕ) → allBelow (λ c. not (getD voted (votePlace g c) false) || ltb c first) first ≡ true
   row-front first =
-      allBelow-all (λ c. not (getD voted (32 * g + c) false) || ltb c first) first
-      (λ c l. free-front (getD voted (32 * g + c) false) (lt-ltb c first l))
+      allBelow-all (λ c. not (getD voted (votePlace g c) false) || ltb c first) first
+      (λ c l. free-front (getD voted (votePlace g c) false) (lt-ltb c first l))
 
   -- a row is free past the plan's cells in a frame of the plan, and from 0 on in any other: what the test of the row says, the test
   -- of the frame's entries says
   pub row-is : (frames cells first : ℕ) {r t : Bool}
       → ((g < frames) × (first ≡ cells)) ⊎ ((frames ≤ g) × (first ≡ 0))
-      → r ≡ allBelow (λ c. not (getD voted (32 * g + c) false) || ltb c first) 32
+      → r ≡ allBelow (λ c. not (getD voted (votePlace g c) false) || ltb c first) 32
       → r ≡ t
-      → allBelow (λ c. not (getD voted (32 * g + c) false) || (ltb g frames && ltb c cells)) 32 ≡ t
+      → allBelow (λ c. not (getD voted (votePlace g c) false) || (ltb g frames && ltb c cells)) 32 ≡ t
   row-is frames cells first (inl (l, e)) h k = rw (lt-ltb g frames l, ← e) (sym h ∙ k)
   row-is frames cells first (inr (l, e)) h k =
       rw (le-ltb g frames l) (simp ltb-zero at (rw e at (sym h ∙ k)))
@@ -189,7 +189,7 @@ module _ (p : Plan) where
   abbrev votes : Bool
   votes =
       allBelow
-      (λ g. allBelow (λ c. not (getD (p .voted) (32 * g + c) false) || (ltb g (p .frames) && ltb c (p .cells))) 32)
+      (λ g. allBelow (λ c. not (getD (p .voted) (votePlace g c) false) || (ltb g (p .frames) && ltb c (p .cells))) 32)
       16
 
   abbrev actuators : Bool

@@ -1,15 +1,17 @@
 // The tests of a record's numbers and entries.
 ghost use mathlib.Core.Path.{_≡_};
 ghost use mathlib.Core.Bool.{false, not, cond, _&&_, _||_};
-ghost use Prim.Native.Nat.{_+_, _*_, _<_};
+ghost use Prim.Native.Nat.{_<_};
 ghost use lib.ListN.{getD};
 ghost use lib.Dec.{eqb, leb, ltb};
 ghost use Rattle.array.specs.Index.{allBelow};
 ghost use Rattle.plan.specs.Limits.{mostFrames, mostCells, mostActuators, mostTasks};
+ghost use Rattle.plan.specs.Known.{votePlace};
 ghost use Rattle.plan.specs.Accepted.{headerOk, opOk, taskOk, isZeroTake, isUnused, taskEntry};
 use super::Op;
 use super::Plan;
 use super::Task;
+use super::step;
 
 pub fn header_ok(
     nodes: usize,
@@ -121,11 +123,11 @@ pub fn initial_ok(initial: &[u64; Plan::CELLS], cells: usize) -> bool
 // Whether a row of the table of votes has none from a cell on.
 fn row_ok(voted: &[bool; Plan::VOTES], frame: usize, from: usize) -> bool
     requires { ⌜ frame < mostFrames ⌝ }
-    ensures { λ r. ⌜ r ≡ allBelow (λ c. not (getD (now (voted .entry)) (mostCells * frame + c) false) || ltb c from) mostCells ⌝ }
+    ensures { λ r. ⌜ r ≡ allBelow (λ c. not (getD (now (voted .entry)) (votePlace frame c) false) || ltb c from) mostCells ⌝ }
 {
     let mut c: usize = from;
     while c < Plan::CELLS {
-        if voted[Plan::CELLS * frame + c] {
+        if voted[step::vote_place(frame, c)] {
             return false;
         }
         c += 1;
@@ -134,7 +136,7 @@ fn row_ok(voted: &[bool; Plan::VOTES], frame: usize, from: usize) -> bool
 }
 
 pub fn votes_ok(voted: &[bool; Plan::VOTES], frames: usize, cells: usize) -> bool
-    ensures { λ r. ⌜ r ≡ allBelow (λ g. allBelow (λ c. not (getD (now (voted .entry)) (mostCells * g + c) false) || (ltb g frames && ltb c cells)) mostCells) mostFrames ⌝ }
+    ensures { λ r. ⌜ r ≡ allBelow (λ g. allBelow (λ c. not (getD (now (voted .entry)) (votePlace g c) false) || (ltb g frames && ltb c cells)) mostCells) mostFrames ⌝ }
 {
     let mut g: usize = 0;
     while g < Plan::FRAMES {

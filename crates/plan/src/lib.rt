@@ -4,6 +4,7 @@ ghost use Rattle.plan.specs.Accepted.{wellFormed};
 use pattern::WindLaw;
 
 pub mod entries;
+pub mod step;
 
 // A task is one of six kinds with the constants of its own kind. The numbers are cells, but for Take's sensor.
 pub enum Op {
@@ -31,7 +32,7 @@ pub struct Plan {
     pub initial: [u64; Plan::CELLS],
     pub task_count: usize,
     pub tasks: [Task; Plan::TASKS],
-    // Entry CELLS * frame + cell.
+    // Laid out as `step::vote_place` says.
     pub voted: [bool; Plan::VOTES],
     pub actuator_cell: [usize; Plan::ACTUATORS],
 }

@@ -78,7 +78,7 @@ fn store_vote(voted: &mut [bool; Plan::VOTES], l: Line)
     ensures { λ _. ⌜ now (voted .exit) ≡ votedWith (numbersIn l) (now (voted .entry)) ⌝ }
 {
     if l.kind == Line::VOTE {
-        let at = Plan::CELLS * l.second + l.third;
+        let at = plan::step::vote_place(l.second, l.third);
         voted[at] = true;
     }
 }

@@ -127,6 +127,15 @@ fn count_votes(voted: &[bool; Plan::VOTES]) -> usize
     count
 }
 
+// The line of an entry of the table of votes.
+fn vote_line(entry: usize) -> Line
+    ensures { λ r. ⌜ numbersIn r ≡ voteLine (voteFrame entry) (voteCell entry) ⌝ }
+{
+    let frame = plan::step::vote_frame(entry);
+    let cell = plan::step::vote_cell(entry);
+    numbers(Line::VOTE, frame, cell, 0, 0, 0)
+}
+
 // The number of the line after the votes is given.
 fn write_votes(voted: &[bool; Plan::VOTES], out: &mut [u8], from: usize) -> usize
     requires { ⌜ (lineSize * (from + howMany (λ e. getD (now voted) e false) (mostFrames * mostCells)) ≤ length (now out)) × (from + howMany (λ e. getD (now voted) e false) (mostFrames * mostCells) ≤ mostLines) ⌝ }
@@ -136,11 +145,7 @@ fn write_votes(voted: &[bool; Plan::VOTES], out: &mut [u8], from: usize) -> usiz
     let mut e: usize = 0;
     while e < Plan::VOTES {
         if voted[e] {
-            write_line(
-                out,
-                i,
-                numbers(Line::VOTE, e / Plan::CELLS, e % Plan::CELLS, 0, 0, 0),
-            );
+            write_line(out, i, vote_line(e));
             i += 1;
         }
         e += 1;

@@ -16,6 +16,7 @@ use Rattle.array.proofs.TestLaws.{split}
 use Rattle.array.proofs.IndexLaws.{allBelow-none}
 use Rattle.array.proofs.BitLaws.{bit-and, bit-ones, bit-set}
 use Rattle.array.proofs.PlacesLaws.{fill-more, fill-out}
+use Rattle.plan.specs.Known.{votePlace}
 
 -- ---- words of ones
 
@@ -39,9 +40,9 @@ unset-more w low g h n k l m =
 module _ (voted : List Bool) (frame begun : ℕ) (ws₀ : List ℕ) where
   -- the word of a cell after the votes
   abbrev pub votedWord : ℕ → ℕ
-  votedWord c = bitOr (getD ws₀ c 0) (cond (getD voted (32 * frame + c) false) begun 0)
+  votedWord c = bitOr (getD ws₀ c 0) (cond (getD voted (votePlace frame c) false) begun 0)
 
-  pub votes-more : (ws : List ℕ) (c r : ℕ) → ws ≡ fill votedWord c ws₀ → r ≡ cond (getD voted (32 * frame + c) false) begun 0 → set ws c (bitOr (getD ws c 0) r) ≡ fill votedWord (c + 1) ws₀
+  pub votes-more : (ws : List ℕ) (c r : ℕ) → ws ≡ fill votedWord c ws₀ → r ≡ cond (getD voted (votePlace frame c) false) begun 0 → set ws c (bitOr (getD ws c 0) r) ≡ fill votedWord (c + 1) ws₀
   votes-more ws c r e v = rw (e, v, fill-out votedWord c ws₀ c 0 (omega arith)) (fill-more votedWord c ws₀ _ refl)
 
 -- ---- the first frames from which all is known

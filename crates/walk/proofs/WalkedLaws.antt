@@ -21,7 +21,7 @@ use Rattle.plan.specs.declared.Op.{Op}
 use Rattle.plan.specs.declared.Task.{Task}
 use Rattle.plan.specs.declared.Plan.{Plan}
 use Rattle.walk.specs.declared.step.Walk.{Walk}
-use Rattle.plan.specs.Known.{taskAt, votedIn, reads, readsKnown, knowTask, knowTasks, knowVoted, knowFrame, known, noneKnown, allKnown, period}
+use Rattle.plan.specs.Known.{taskAt, votePlace, votedIn, reads, readsKnown, knowTask, knowTasks, knowVoted, knowFrame, known, noneKnown, allKnown, period}
 use Rattle.walk.specs.Walk.{walkStart, wordsStart, allWords, readWord, afterTask, withVotes, whole, longer, Closed}
 use Rattle.plan.proofs.AcceptedLaws.{Shape}
 use Rattle.plan.proofs.KnownLaws.{All, task-elsewhere, task-target, task-other, voted-is, voted-past, tasks-length, known-first, known-next, known-length, none-known}
@@ -245,7 +245,7 @@ module _ (p : Plan) (s : Shape p) where
           ap (λ (ws : List ℕ). bit (getD ws c 0) g) (q .words)
           ∙ ap (λ (x : ℕ). bit x g) (fill-in _ (p .cells) ws c 0 cl (omega (arith, h .size, s .cells-le)))
           ∙ bit-or (getD ws c 0) _ g
-          ∙ rw (h .words g gl c, cond-bit (getD (p .voted) (32 * w .frame + c) false) (2 ^ min (w .time + 1) (p .frames) - 1) g, begun-bit (p .frames) (w .time + 1) g gl)
+          ∙ rw (h .words g gl c, cond-bit (getD (p .voted) (votePlace (w .frame) c) false) (2 ^ min (w .time + 1) (p .frames) - 1) g, begun-bit (p .frames) (w .time + 1) g gl)
 
       past-bit : (g c : ℕ) → g < p .frames → p .cells ≤ c → bit (getD vs c 0) g ≡ (ltb g (w .time) && getD (tasked g) c false)
       unfolding withVotes tasked

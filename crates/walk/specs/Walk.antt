@@ -3,7 +3,7 @@
 use mathlib.Core.Path.{_≡_}
 use mathlib.Core.Bool.{Bool, true, false, cond, _&&_}
 use mathlib.Core.List.{List, [], _∷_}
-use Prim.Native.Nat.{ℕ, _+_, _-_, _*_, _^_, _≤_, _<_, min}
+use Prim.Native.Nat.{ℕ, _+_, _-_, _^_, _≤_, _<_, min}
 use lib.ListN.{getD, set, replicate}
 use lib.Dec.{ltb}
 use lib.Bits.{bitAnd, bitOr}
@@ -13,7 +13,7 @@ use Rattle.plan.specs.declared.Op.{Op}
 use Rattle.plan.specs.declared.Task.{Task}
 use Rattle.walk.specs.declared.step.Walk.{Walk}
 use Rattle.plan.specs.Limits.{mostCells}
-use Rattle.plan.specs.Known.{reads}
+use Rattle.plan.specs.Known.{reads, votePlace}
 
 abbrev pub walkStart : Walk
 walkStart = record { low = 0; longest = 0; time = 0; frame = 0 }
@@ -37,7 +37,7 @@ afterTask begun ws t = set ws (t .target) (readWord (t .op) (t .target) begun ws
 -- the words after the votes of a frame
 unfoldable pub withVotes : List Bool → ℕ → ℕ → ℕ → List ℕ → List ℕ
 withVotes voted frame cells begun ws =
-    fill (λ c. bitOr (getD ws c 0) (cond (getD voted (mostCells * frame + c) false) begun 0)) cells ws
+    fill (λ c. bitOr (getD ws c 0) (cond (getD voted (votePlace frame c) false) begun 0)) cells ws
 
 -- whether from first frame g all cells are known
 unfoldable pub whole : List ℕ → ℕ → ℕ → Bool

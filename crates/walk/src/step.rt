@@ -88,7 +88,7 @@ fn add_votes(
 {
     let mut c: usize = 0;
     while c < cells {
-        words[c] = words[c] | if_voted(voted[Plan::CELLS * frame + c], begun);
+        words[c] = words[c] | if_voted(voted[plan::step::vote_place(frame, c)], begun);
         c += 1;
     }
 }

@@ -2,13 +2,14 @@
 use mathlib.Core.Path.{_≡_, sym}
 use mathlib.Core.Logic.{⊎-elim, inl, inr}
 use mathlib.Core.Bool.{true, false, not, _&&_, _||_}
-use Prim.Native.Nat.{_+_, _*_, _≤_, _-_}
+use Prim.Native.Nat.{_≤_, _-_}
 use lib.ListN.{getD}
 use lib.Dec.{ltb}
 use borrow.Author.Needs.{needs}
 use borrow.Author.Tests.{not-true, not-false}
 use Rattle.array.specs.Index.{allBelow}
 use Rattle.array.proofs.IndexLaws.{allBelow-none, allBelow-more, allBelow-fails}
+use Rattle.plan.specs.Known.{votePlace}
 use Rattle.plan.proofs.EntryLaws.{all-done, row-is}
 use Rattle.plan.proofs.entries.votes_ok.Statement.{statement}
 use Rattle.plan.proofs.entries.votes_ok.Tie as tie
@@ -16,7 +17,7 @@ use Rattle.plan.proofs.entries.votes_ok.Tie as tie
 abbrev Inv-loop : tie.InvT-loop
 Inv-loop voted frames cells g₀ g =
     (g ≤ 16)
-    × (allBelow (λ f. allBelow (λ j. not (getD voted (32 * f + j) false) || (ltb f frames && ltb j cells)) 32) g ≡ true)
+    × (allBelow (λ f. allBelow (λ j. not (getD voted (votePlace f j) false) || (ltb f frames && ltb j cells)) 32) g ≡ true)
 
 abbrev μ-loop : tie.MeasureT-loop
 μ-loop voted frames cells g₀ g = 16 - g

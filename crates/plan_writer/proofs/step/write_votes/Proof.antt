@@ -9,7 +9,6 @@ use borrow.Author.Needs.{needs}
 use Rattle.array.specs.Index.{howMany}
 use Rattle.array.proofs.IndexLaws.{howMany-none, howMany-hit, howMany-miss, howMany-grows}
 use Rattle.text.specs.Line.{lineSize}
-use Rattle.text.specs.Written.{voteLine}
 use Rattle.array.specs.Place.{placed}
 use Rattle.plan_writer.proofs.WriterLaws.{voteRows, votes-none, votes-size, votes-hit, votes-miss}
 use Rattle.plan_writer.proofs.step.write_votes.Statement.{statement}
@@ -45,7 +44,6 @@ add-i c =
     omega (arith, start .pre)
 
 loop-again : tie.Need-loop-again Inv-loop μ-loop
-unfolding voteLine
 loop-again c =
     let start = c .before .before .before .before .before in
     let q : ℕ → Bool = λ e. getD (start .args .voted .now) e false in

@@ -21,8 +21,9 @@ loop-holds c = (search needs, sym (fill-none _ _))
 
 loop-again : tie.Need-loop-again Inv-loop μ-loop
 loop-again c =
-    let a = c .before .before .before .before .before .args in
-    (search needs, votes-more (a .voted .now) (a .frame) (a .begun) (a .words .now) (c .before .before .before .before .loop .words) (c .before .before .before .before .loop .c) (c .if-voted .result) (c .before .before .before .before .loop .inv .1) (c .if-voted .ensures))
+    let l = c .before .before .before .before .before in
+    let a = l .before .args in
+    (search needs, votes-more (a .voted .now) (a .frame) (a .begun) (a .words .now) (l .loop .words) (l .loop .c) (c .if-voted .result) (l .loop .inv .1) (rw (c .before .before .vote-place .ensures) at (c .if-voted .ensures)))
 
 returns : tie.Need-returns Inv-loop μ-loop
 unfolding withVotes
@@ -40,8 +41,7 @@ add-votes-spec =
     loop-holds
     (λ c. search needs)
     (λ c. search needs)
-    (λ c. search needs)
-    (λ c. search needs)
+    (λ c κs. search needs)
     (λ c. search needs)
     (λ c κs. search needs)
     (λ c. search needs)
