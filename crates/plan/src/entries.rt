@@ -67,7 +67,10 @@ pub fn task_ok(frames: usize, cells: usize, sensors: usize, t: Task) -> bool
 {
     let op = t.op;
     let target = t.target;
-    (t.frame < frames) & (target < cells) & op_ok(cells, sensors, target, op)
+    if cells <= target {
+        return false;
+    }
+    (t.frame < frames) & op_ok(cells, sensors, target, op)
 }
 
 fn is_unused(t: Task) -> bool
