@@ -22,18 +22,20 @@ pub struct Started {
     pub run: Run,
 }
 
-// A refused text has the all-zero plan, which gives a period of 0, the all-zero record and the all-zero memory.
+// A refused text has the all-zero plan and a period of 0, and so the all-zero record and the all-zero memory.
 pub fn start(text: &[u8]) -> Started
     ensures { λ r. ⌜ r ≡ startAnswer (now (text .entry)) ⌝ }
 {
-    let read = plan_text::read(text);
-    let plan = read.plan;
+    let mut period: usize = 0;
+    let read = plan_text::step::read(text, &mut period);
     let answer = read.answer;
-    let period = recovery::accepted_period(plan);
-    let started = System::power_on(plan);
-    let system = started.system;
-    let powered = node::power_on(plan);
-    let single = powered.memory;
+    let plan = read.plan;
+    let mut system = System::zero();
+    let mut single = memory::zero_memory();
+    if period != 0 {
+        system = System::started(plan, period);
+        single = memory::step::power_on(plan);
+    }
     let run = Run {
         plan,
         period,

@@ -1,5 +1,5 @@
 -- The lines read so far, and what the reader answers.
-use mathlib.Core.Path.{_≡_, sym, ap, _∙_}
+use mathlib.Core.Path.{_≡_, refl, sym, ap, _∙_}
 use mathlib.Core.Bool.{Bool, true, false, not}
 use mathlib.Core.List.{List}
 use mathlib.Core.Option.{none, some}
@@ -7,14 +7,14 @@ use Prim.Native.Nat.{ℕ, _+_, _-_, _*_, _≤_, _<_}
 use native.Mathlib.Nat.{add-sub-cancel-left}
 use native.Mathlib.Omega.{arith}
 use lib.ListN.{length, take, drop}
-use Rattle.array.proofs.TestLaws.{refused-test, passed-test}
+use Rattle.array.proofs.TestLaws.{and-false-left, and-false-right, refused-test, passed-test}
 use Rattle.answer.specs.declared.Answer.{Answer}
 use Rattle.answer.specs.declared.Answer.the-variants.{Done, TextLength, Malformed, Header, OutOfOrder, OutOfRange, Unrecoverable}
 use Rattle.column.specs.Row.{numbersOf}
 use Rattle.plan.specs.declared.Plan.{Plan}
 use Rattle.plan.specs.Limits.{mostTasks}
 use Rattle.plan.specs.Known.{period}
-use Rattle.plan.specs.Accepted.{wellFormed}
+use Rattle.plan.specs.Accepted.{headerOk, storable, wellFormed, accepted}
 use Rattle.plan_text.specs.declared.PlanRead.{PlanRead}
 use Rattle.plan_line.specs.declared.Line.{Line}
 use Rattle.plan_line.specs.declared.LineRead.{LineRead}
@@ -22,12 +22,14 @@ use Rattle.plan_line.specs.declared.LineRead.the-variants.{Whole, Malformed as 
 use Rattle.text.specs.Line.{widths, lineSize, mostLines, lineCount, numbersAt, lineAt}
 use Rattle.text.specs.Meant.{zeroPlan, withLine, planTo, planOf}
 use Rattle.text.specs.Refused.{lengthOk, isHeader, inOrder, inRange, lineRefusal, firstRefusal, isLast, linesRefusal, textRefusal}
-use Rattle.plan_text.specs.Answers.{unlessRefused, readAnswer}
+use Rattle.plan_text.specs.Answers.{unlessRefused, readAnswer, readPeriod}
 use Rattle.plan_line.specs.Reader.{numbersIn, numbersRead}
 use Rattle.text.proofs.LineLaws.{slice-part, lineAt-is, some-line, few-lines}
 use Rattle.text.proofs.MeantLaws.{planTo-start, planTo-more, planTo-tasks, planTo-count}
 use Rattle.text.proofs.RefusedLaws.{first-start, first-more, line-malformed, not-header, header-passes, refused-order, refused-range, not-refused, lines-none, lines-refused, lines-missing, text-wrong-length, text-refused, text-unrecoverable, text-none}
 use Rattle.text.proofs.ToldLaws.{text-wellFormed}
+use Rattle.recovery.proofs.AnswerLaws.{accepted-period, refused-period}
+use Rattle.plan_text.proofs.TextLaws.{read-plan}
 
 -- ---- the numbers of line i, as the code takes them
 
@@ -45,32 +47,41 @@ module _ (s : List ℕ) (i : ℕ) {x : LineRead} (e : numbersRead x ≡ numbersO
 
 -- ---- the answer: a refusal and the zero record, or the record
 
-abbrev Refusal : PlanRead → Answer → Type 0
-Refusal x a = (x .answer ≡ a) × (x .plan ≡ zeroPlan)
+abbrev Refusal : PlanRead → ℕ → Answer → Type 0
+Refusal x n a = (x .answer ≡ a) × (x .plan ≡ zeroPlan) × (n ≡ 0)
+
+-- the answer to a text, and the plan's period
+abbrev Answered : List ℕ → PlanRead → ℕ → Type 0
+Answered s x n = (x ≡ readAnswer s) × (n ≡ readPeriod s)
+
+-- no text has the all-zero record
+pub zero-refused : accepted zeroPlan ≡ false
+unfolding accepted wellFormed headerOk
+zero-refused = and-false-left _ (and-false-right (storable zeroPlan) refl)
 
 module _ (s : List ℕ) where
-  refused : {x : PlanRead} {a : Answer} → textRefusal s ≡ some a → Refusal x a → x ≡ readAnswer s
-  unfolding readAnswer unlessRefused
-  refused t e = rw t (λ i. record { answer = e .0 i; plan = e .1 i })
+  refused : {x : PlanRead} {k : ℕ} {a : Answer} → textRefusal s ≡ some a → Refusal x k a → Answered s x k
+  unfolding readAnswer readPeriod unlessRefused
+  refused t e = rw t (λ i. record { answer = e .0 i; plan = e .1 i }, e .2 ∙ sym (refused-period zeroPlan zero-refused))
 
-  done : {p : Plan} → textRefusal s ≡ none → p ≡ planOf s → record { answer = Done; plan = p } ≡ readAnswer s
-  unfolding readAnswer unlessRefused
-  done t e = rw (t, e)
+  done : {p : Plan} {n : ℕ} → textRefusal s ≡ none → p ≡ planOf s → n ≡ period p → Answered s (record { answer = Done; plan = p }) n
+  unfolding readAnswer readPeriod unlessRefused
+  done t e f = rw (t, f, e) (refl, sym (accepted-period (planOf s) (read-plan s t)))
 
   -- ---- the header is read
 
-  pub answer-length : {x : PlanRead} → lengthOk (length s) ≡ false → Refusal x TextLength → x ≡ readAnswer s
+  pub answer-length : {x : PlanRead} {k : ℕ} → lengthOk (length s) ≡ false → Refusal x k TextLength → Answered s x k
   answer-length e f = refused (text-wrong-length s e) f
 
   module _ (ok : lengthOk (length s) ≡ true) where
     first : (a : Answer) → lineRefusal s 0 ≡ some a → textRefusal s ≡ some a
     first a e = text-refused s a ok (lines-refused s 1 a (some-line (length s) ok) (first-more s 0 (some a) (first-start s) e))
 
-    pub answer-first : {x : PlanRead} → numbersAt s 0 ≡ none → Refusal x (Malformed 1) → x ≡ readAnswer s
+    pub answer-first : {x : PlanRead} {k : ℕ} → numbersAt s 0 ≡ none → Refusal x k (Malformed 1) → Answered s x k
     answer-first n f = refused (first (Malformed 1) (line-malformed s 0 n)) f
 
-    pub answer-header : {x : PlanRead} {h : List ℕ} → numbersAt s 0 ≡ some h → isHeader h ≡ false → Refusal x Header → x ≡ readAnswer s
-    answer-header {x} {h} n e f = refused (first Header (not-header s h n e)) f
+    pub answer-header : {x : PlanRead} {k : ℕ} {h : List ℕ} → numbersAt s 0 ≡ some h → isHeader h ≡ false → Refusal x k Header → Answered s x k
+    answer-header {x} {k} {h} n e f = refused (first Header (not-header s h n e)) f
 
 -- ---- the lines read so far
 
@@ -109,11 +120,11 @@ module _ {s h : List ℕ} {p : Plan} {prev : List ℕ} {i : ℕ} (r : ReadTo s h
 
   -- the next line
   module _ (within : i < lineCount s) where
-    stops : {x : PlanRead} {a : Answer} → lineRefusal s i ≡ some a → Refusal x a → x ≡ readAnswer s
-    stops {x} {a} e f =
+    stops : {x : PlanRead} {k : ℕ} {a : Answer} → lineRefusal s i ≡ some a → Refusal x k a → Answered s x k
+    stops {x} {k} {a} e f =
         refused s (text-refused s a (r .length-ok) (lines-refused s (i + 1) a (omega arith) (first-more s i (some a) (r .passed) e))) f
 
-    pub answer-malformed : {x : PlanRead} → numbersAt s i ≡ none → Refusal x (Malformed (i + 1)) → x ≡ readAnswer s
+    pub answer-malformed : {x : PlanRead} {k : ℕ} → numbersAt s i ≡ none → Refusal x k (Malformed (i + 1)) → Answered s x k
     answer-malformed n f = stops (line-malformed s i n) f
 
     module _ {l : List ℕ} (n : numbersAt s i ≡ some l) where
@@ -123,11 +134,11 @@ module _ {s h : List ℕ} {p : Plan} {prev : List ℕ} {i : ℕ} (r : ReadTo s h
       range : {b : Bool} → inRange h l ≡ b → inRange (lineAt s 0) l ≡ b
       range o = rw (r .header) o
 
-      pub answer-order : {x : PlanRead} {t : Bool} → t ≡ inOrder h (i - 1) prev l → not t ≡ true → Refusal x (OutOfOrder (i + 1)) → x ≡ readAnswer s
+      pub answer-order : {x : PlanRead} {k : ℕ} {t : Bool} → t ≡ inOrder h (i - 1) prev l → not t ≡ true → Refusal x k (OutOfOrder (i + 1)) → Answered s x k
       answer-order o t f = stops (refused-order s i (r .later) l n (order (refused-test o t))) f
 
       pub answer-range :
-          {x : PlanRead} {t : Bool} → inOrder h (i - 1) prev l ≡ true → t ≡ inRange h l → not t ≡ true → Refusal x (OutOfRange (i + 1)) → x ≡ readAnswer s
+          {x : PlanRead} {k : ℕ} {t : Bool} → inOrder h (i - 1) prev l ≡ true → t ≡ inRange h l → not t ≡ true → Refusal x k (OutOfRange (i + 1)) → Answered s x k
       answer-range o g t f = stops (refused-range s i (r .later) l n (order o) (range (refused-test g t))) f
 
       pub read-more : {q : Plan} → inOrder h (i - 1) prev l ≡ true → inRange h l ≡ true → q ≡ withLine l p → ReadTo s h q l (i + 1)
@@ -154,7 +165,7 @@ module _ {s h : List ℕ} {p : Plan} {prev : List ℕ} {i : ℕ} (r : ReadTo s h
     last-line : {b : Bool} → isLast h prev ≡ b → isLast (lineAt s 0) (lineAt s (lineCount s - 1)) ≡ b
     last-line e = rw (← at-end, r .header, r .last) e
 
-    pub answer-missing : {x : PlanRead} {t : Bool} → t ≡ isLast h prev → not t ≡ true → Refusal x (OutOfOrder (lineCount s + 1)) → x ≡ readAnswer s
+    pub answer-missing : {x : PlanRead} {k : ℕ} {t : Bool} → t ≡ isLast h prev → not t ≡ true → Refusal x k (OutOfOrder (lineCount s + 1)) → Answered s x k
     answer-missing e t f = refused s (text-refused s _ (r .length-ok) (lines-missing s no-refusal (last-line (refused-test e t)))) f
 
     module _ {t : Bool} (e : t ≡ isLast h prev) (u : not t ≡ false) where
@@ -168,8 +179,8 @@ module _ {s h : List ℕ} {p : Plan} {prev : List ℕ} {i : ℕ} (r : ReadTo s h
       pub read-wellFormed : wellFormed p ≡ true
       read-wellFormed = rw whole (text-wellFormed s (r .length-ok) lines-pass)
 
-      pub answer-unrecoverable : {x : PlanRead} {n : ℕ} → n ≡ period p → n ≡ 0 → Refusal x Unrecoverable → x ≡ readAnswer s
+      pub answer-unrecoverable : {x : PlanRead} {k found : ℕ} → found ≡ period p → found ≡ 0 → Refusal x k Unrecoverable → Answered s x k
       answer-unrecoverable m z f = refused s (text-unrecoverable s (r .length-ok) lines-pass (sym (ap period whole) ∙ sym m ∙ z)) f
 
-      pub answer-done : {n : ℕ} → n ≡ period p → (n ≡ 0 → ⊥) → record { answer = Done; plan = p } ≡ readAnswer s
-      answer-done m z = done s (text-none s (r .length-ok) lines-pass (λ k. z (m ∙ ap period whole ∙ k))) whole
+      pub answer-done : {n : ℕ} → n ≡ period p → (n ≡ 0 → ⊥) → Answered s (record { answer = Done; plan = p }) n
+      answer-done m z = done s (text-none s (r .length-ok) lines-pass (λ k. z (m ∙ ap period whole ∙ k))) whole m

@@ -11,6 +11,7 @@ use Rattle.plan.specs.declared.Plan.{Plan}
 use Rattle.plan.specs.Accepted.{accepted}
 use Rattle.plan_text.specs.declared.PlanRead.{PlanRead}
 use Rattle.plan_text.specs.declared.TextWritten.{TextWritten}
+use Rattle.recovery.specs.Answers.{acceptedPeriod}
 use Rattle.text.specs.Written.{planText}
 use Rattle.text.specs.Meant.{zeroPlan, planOf}
 use Rattle.text.specs.Refused.{textRefusal}
@@ -22,6 +23,10 @@ unlessRefused (some a) p = zeroPlan
 
 unfoldable pub readAnswer : List ℕ → PlanRead
 readAnswer s = record { answer = Option·getD (textRefusal s) Done; plan = unlessRefused (textRefusal s) (planOf s) }
+
+-- the recovery period of the plan, 0 beside a refusal
+unfoldable pub readPeriod : List ℕ → ℕ
+readPeriod s = acceptedPeriod (readAnswer s .plan)
 
 -- 7, then 8: "a text buffer too short"
 unfoldable pub writeChecked : Plan → ℕ → Answer

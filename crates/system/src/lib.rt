@@ -1,12 +1,11 @@
 // The whole system: its record and its constructor. The definitions of a frame under faults, and demand 3 over them, are in specs/ and proofs/.
 ghost use mathlib.Core.Path.{_≡_};
-ghost use mathlib.Core.Bool.{true};
-ghost use Rattle.plan.specs.Accepted.{accepted};
-ghost use Rattle.plan.specs.Known.{period as periodOf};
-ghost use Rattle.system.specs.System.{zeroSystem, powerOn, powerOnAnswer};
+ghost use Rattle.system.specs.System.{powerOnAnswer};
 use answer::Answer;
 use memory::Memory;
 use plan::Plan;
+
+pub mod step;
 
 // What lies past the plan's nodes is neither read nor changed.
 pub struct System {
@@ -39,34 +38,6 @@ impl System {
     pub const CELLS: usize = Plan::CELLS;
 
     pub const TASKS: usize = Plan::TASKS;
-
-    fn zero() -> System
-        ensures { λ r. ⌜ r ≡ zeroSystem ⌝ }
-    {
-        let memory = memory::zero_memory();
-        System {
-            memories: [memory; System::NODES],
-            good: [0; System::NODES],
-        }
-    }
-
-    // The record of an accepted plan, whose period is given.
-    fn started(plan: Plan, period: usize) -> System
-        requires { ⌜ (accepted plan ≡ true) × (period ≡ periodOf plan) ⌝ }
-        ensures { λ r. ⌜ r ≡ powerOn plan ⌝ }
-    {
-        let nodes = plan.nodes;
-        let memory = memory::step::power_on(plan);
-        let full = period as u16;
-        let mut system = System::zero();
-        let mut i: usize = 0;
-        while i < nodes {
-            system.memories[i] = memory;
-            system.good[i] = full;
-            i += 1;
-        }
-        system
-    }
 
     pub fn power_on(plan: Plan) -> Started
         ensures { λ r. ⌜ r ≡ powerOnAnswer plan ⌝ }

@@ -1,9 +1,9 @@
--- `plan_text::store_vote` meets its contract: a vote is stored at its place in the table, and of another line nothing.
+-- `plan_text::step::store_vote` meets its contract: a vote is stored at its place in the table, and of another line nothing.
 use native.Mathlib.Omega.{arith}
 use borrow.Author.Tests.{eq-eqb, ne-eqb}
 use Rattle.text.specs.Meant.{votedWith}
-use Rattle.plan_text.proofs.store_vote.Statement.{statement}
-use Rattle.plan_text.proofs.store_vote.Tie as tie
+use Rattle.plan_text.proofs.step.store_vote.Statement.{statement}
+use Rattle.plan_text.proofs.step.store_vote.Tie as tie
 
 vote-place-requires : tie.Need-vote-place-requires
 vote-place-requires c κs = c .before .before .pre (c .if1 .taken)

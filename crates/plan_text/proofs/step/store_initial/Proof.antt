@@ -1,9 +1,9 @@
--- `plan_text::store_initial` meets its contract: a cell's value is stored, and of another line nothing.
+-- `plan_text::step::store_initial` meets its contract: a cell's value is stored, and of another line nothing.
 use native.Mathlib.Omega.{arith}
 use borrow.Author.Tests.{eq-eqb, ne-eqb}
 use Rattle.text.specs.Meant.{initialWith}
-use Rattle.plan_text.proofs.store_initial.Statement.{statement}
-use Rattle.plan_text.proofs.store_initial.Tie as tie
+use Rattle.plan_text.proofs.step.store_initial.Statement.{statement}
+use Rattle.plan_text.proofs.step.store_initial.Tie as tie
 
 mul-initial : tie.Need-mul-initial
 mul-initial c = omega (arith, c .before .before .pre (c .if1 .taken))

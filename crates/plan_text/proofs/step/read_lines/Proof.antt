@@ -1,4 +1,4 @@
--- `plan_text::read_lines` meets its contract: the first i lines pass and mean the record so far; the first line that does not pass refuses the text.
+-- `plan_text::step::read_lines` meets its contract: the first i lines pass and mean the record so far; the first line that does not pass refuses the text.
 use mathlib.Core.Path.{_≡_, sym, ap, _∙_}
 use mathlib.Core.Bool.{true}
 use mathlib.Core.Logic.{⊎-elim}
@@ -16,14 +16,14 @@ use Rattle.text.proofs.RefusedLaws.{cell-index, vote-index, actuator-index}
 use Rattle.plan_text.proofs.StoreLaws.{later-kind, header-stored, task-stored, other-stored, counted}
 use Rattle.array.proofs.TestLaws.{passed-test}
 use Rattle.plan_text.proofs.ReadLaws.{whole-line, no-line, ReadTo, read-start, read-tasks, read-count, read-more, read-wellFormed, answer-malformed, answer-order, answer-range, answer-missing, answer-unrecoverable, answer-done}
-use Rattle.plan_text.proofs.read_lines.Statement.{statement}
-use Rattle.plan_text.proofs.read_lines.Tie as tie
+use Rattle.plan_text.proofs.step.read_lines.Statement.{statement}
+use Rattle.plan_text.proofs.step.read_lines.Tie as tie
 
 abbrev Inv-loop : tie.InvT-loop
-Inv-loop text h lines plan₀ prev₀ i₀ plan prev i = ReadTo text (numbersIn h) plan (numbersIn prev) i
+Inv-loop text h period₀ lines plan₀ prev₀ i₀ period plan prev i = ReadTo text (numbersIn h) plan (numbersIn prev) i
 
 abbrev μ-loop : tie.MeasureT-loop
-μ-loop text h lines plan₀ prev₀ i₀ plan prev i = lines - i
+μ-loop text h period₀ lines plan₀ prev₀ i₀ period plan prev i = lines - i
 
 -- the line that was read, and that it passed
 numbers : (c : tie.After-l Inv-loop μ-loop) → numbersAt (c .before .before .before .before .before .before .before .before .args .text .now) (c .before .before .before .before .before .loop .i) ≡ some (numbersIn (c .l .given .0 .0))
@@ -67,19 +67,19 @@ loop-holds c =
 
 returns : tie.Need-returns Inv-loop μ-loop
 returns c =
-    let start = c .before .before .before .before .before .before .before .before .before in
-    let loop = c .before .before .before .before .before .before .loop in
-    answer-malformed (loop .inv) (c .before .before .before .before .before .loop-test .taken) (no-line (start .args .text .now) (loop .i) (c .before .before .before .read-line .ensures) (c .before .enum-told .given .1)) (c .refused .ensures)
+    let start = c .before .before .before .before .before .before .before .before .before .before in
+    let loop = c .before .before .before .before .before .before .before .loop in
+    answer-malformed (loop .inv) (c .before .before .before .before .before .before .loop-test .taken) (no-line (start .args .text .now) (loop .i) (c .before .before .before .before .read-line .ensures) (c .before .before .enum-told .given .1)) (c .refused .ensures)
 
 returns-2 : tie.Need-returns-2 Inv-loop μ-loop
 returns-2 c =
-    let loop = c .before .before .before .before .before .before .before .before .before .loop in
-    answer-order (loop .inv) (c .before .before .before .before .before .before .before .before .loop-test .taken) (numbers (c .before .before .before .before)) (c .before .before .in-order .ensures) (c .before .if1 .taken) (c .refused2 .ensures)
+    let loop = c .before .before .before .before .before .before .before .before .before .before .loop in
+    answer-order (loop .inv) (c .before .before .before .before .before .before .before .before .before .loop-test .taken) (numbers (c .before .before .before .before .before)) (c .before .before .before .in-order .ensures) (c .before .before .if1 .taken) (c .refused2 .ensures)
 
 returns-3 : tie.Need-returns-3 Inv-loop μ-loop
 returns-3 c =
-    let loop = c .before .before .before .before .before .before .before .before .before .before .before .loop in
-    answer-range (loop .inv) (c .before .before .before .before .before .before .before .before .before .before .loop-test .taken) (numbers (c .before .before .before .before .before .before)) (order (c .before .before .before)) (c .before .before .in-range .ensures) (c .before .if2 .taken) (c .refused3 .ensures)
+    let loop = c .before .before .before .before .before .before .before .before .before .before .before .before .loop in
+    answer-range (loop .inv) (c .before .before .before .before .before .before .before .before .before .before .before .loop-test .taken) (numbers (c .before .before .before .before .before .before .before)) (order (c .before .before .before .before)) (c .before .before .before .in-range .ensures) (c .before .before .if2 .taken) (c .refused3 .ensures)
 
 store-initial-requires : tie.Need-store-initial-requires Inv-loop μ-loop
 store-initial-requires c κs =
@@ -107,15 +107,15 @@ loop-again c =
     read-more (loop .inv) (c .before .before .before .before .before .before .before .before .before .before .before .before .before .before .before .before .before .loop-test .taken) (numbers (c .before .before .before .before .before .before .before .before .before .before .before .before .before)) (order (c .before .before .before .before .before .before .before .before .before .before)) (range (c .before .before .before .before .before .before .before .before)) (stored c)
 
 returns-4 : tie.Need-returns-4 Inv-loop μ-loop
-returns-4 c = answer-missing (c .before .before .before .before .loop .inv) (c .before .before .before .loop-test .left) (c .before .before .is-last .ensures) (c .before .if5 .taken) (c .refused4 .ensures)
+returns-4 c = answer-missing (c .before .before .before .before .before .loop .inv) (c .before .before .before .before .loop-test .left) (c .before .before .before .is-last .ensures) (c .before .before .if5 .taken) (c .refused4 .ensures)
 
 period-requires : tie.Need-period-requires Inv-loop μ-loop
 period-requires c κs = read-wellFormed (c .before .before .before .loop .inv) (c .before .before .loop-test .left) (c .before .is-last .ensures) (c .if5 .left)
 
 returns-5 : tie.Need-returns-5 Inv-loop μ-loop
 returns-5 c =
-    let loop = c .before .before .before .before .before .before .loop in
-    answer-unrecoverable (loop .inv) (c .before .before .before .before .before .loop-test .left) (c .before .before .before .before .is-last .ensures) (c .before .before .before .if5 .left) (c .before .before .period .ensures) (c .before .if6 .taken) (c .refused5 .ensures)
+    let loop = c .before .before .before .before .before .before .before .loop in
+    answer-unrecoverable (loop .inv) (c .before .before .before .before .before .before .loop-test .left) (c .before .before .before .before .before .is-last .ensures) (c .before .before .before .before .if5 .left) (c .before .before .before .period .ensures) (c .before .before .if6 .taken) (c .refused5 .ensures)
 
 returns-6 : tie.Need-returns-6 Inv-loop μ-loop
 returns-6 c = answer-done (c .before .before .before .before .before .loop .inv) (c .before .before .before .before .loop-test .left) (c .before .before .before .is-last .ensures) (c .before .before .if5 .left) (c .before .period .ensures) (c .if6 .left)

@@ -1,8 +1,8 @@
--- `plan_text::length_ok` meets its contract: the tests are those of the definition.
+-- `plan_text::step::length_ok` meets its contract: the tests are those of the definition.
 use mathlib.Core.Path.{refl}
 use Rattle.text.specs.Refused.{lengthOk}
-use Rattle.plan_text.proofs.length_ok.Statement.{statement}
-use Rattle.plan_text.proofs.length_ok.Tie as tie
+use Rattle.plan_text.proofs.step.length_ok.Statement.{statement}
+use Rattle.plan_text.proofs.step.length_ok.Tie as tie
 
 returns : tie.Need-returns
 unfolding lengthOk

@@ -1,9 +1,9 @@
--- `plan_text::store_actuator` meets its contract: an actuator's cell is stored, and of another line nothing.
+-- `plan_text::step::store_actuator` meets its contract: an actuator's cell is stored, and of another line nothing.
 use native.Mathlib.Omega.{arith}
 use borrow.Author.Tests.{eq-eqb, ne-eqb}
 use Rattle.text.specs.Meant.{actuatorsWith}
-use Rattle.plan_text.proofs.store_actuator.Statement.{statement}
-use Rattle.plan_text.proofs.store_actuator.Tie as tie
+use Rattle.plan_text.proofs.step.store_actuator.Statement.{statement}
+use Rattle.plan_text.proofs.step.store_actuator.Tie as tie
 
 mul-table : tie.Need-mul-table
 mul-table c = omega (arith, c .before .before .pre (c .if1 .taken))
