@@ -8,8 +8,9 @@ use native.Mathlib.Numerals.{add-one}
 use lib.Dec.{lit<}
 use lib.ListN.{length, getD, set, take, drop, length-append}
 use lib.Seq.{sets, sets-eq}
+use Rattle.array.specs.Index.{from}
 use Rattle.array.specs.Word.{be, bytes}
-use Rattle.array.proofs.PlacesLaws.{Holds, holds-left, holds-right, holds-entry}
+use Rattle.array.proofs.PlacesLaws.{Holds, holds-left, holds-right, holds-entry, from-at}
 
 pub bytes-length : (n x : ℕ) → length (bytes n x) ≡ n
 unfolding bytes
@@ -43,6 +44,14 @@ be-of-bytes (suc n) x at s l h = rw (be-of-bytes n (x / 256) at s (div-lt-iff-lt
 
     last : getD s (at + n) 0 ≡ x % 256
     last = holds-entry 0 end
+
+-- a word within a part
+pub be-part : (n : ℕ) (s : List ℕ) (at w o : ℕ) → o + n ≤ w → be n s (at + o) ≡ be n (from 0 s at w) o
+unfolding be
+be-part zero s at w o l = refl
+be-part (suc n) s at w o l =
+    let z : at + o + n ≡ at + (o + n) = omega arith in
+    rw (be-part n s at w o (omega arith), z, from-at 0 s at w (o + n) (omega arith))
 
 -- ---- stores one after another
 

@@ -1,2 +1,5 @@
-pub mod ScanLaws
 pub mod MajorityLaws
+pub mod ScanLaws
+pub mod PlaneLaws
+pub mod PackedLaws
+pub mod ToldLaws

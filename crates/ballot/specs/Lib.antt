@@ -1,1 +1,3 @@
 pub mod Majority
+pub mod Plane
+pub mod Code

@@ -1,5 +1,5 @@
--- Document 01: "The voted value is the pattern of the first bin that more than half of the bins share." Comparisons are of bits.
-use mathlib.Core.Bool.{cond}
+-- Document 01: "The voted value is the pattern of the first bin that more than half of the bins share." Comparisons are of bits. A bin may hold nothing.
+use mathlib.Core.Bool.{Bool, false, cond}
 use mathlib.Core.Option.{Option, none, some}
 use Prim.Native.Nat.{ℕ, zero, suc, _*_}
 use lib.Dec.{eqb, ltb}
@@ -7,22 +7,32 @@ use Rattle.array.specs.Index.{howMany}
 use Rattle.ballot.specs.declared.Voted.{Voted}
 use Rattle.ballot.specs.declared.Voted.the-variants.{Value, Nothing}
 
--- how many of the first k bins hold x
-unfoldable pub holders : (ℕ → ℕ) → ℕ → ℕ → ℕ
-holders bin k x = howMany (λ j. eqb (bin j) x) k
+-- whether a bin holds x
+unfoldable pub holds : Option ℕ → ℕ → Bool
+holds none x = false
+holds (some v) x = eqb v x
+
+-- how many of the first n bins hold x
+unfoldable pub holders : (ℕ → Option ℕ) → ℕ → ℕ → ℕ
+holders bin n x = howMany (λ j. holds (bin j) x) n
+
+-- what a bin holds, where more than half of the n bins share it
+unfoldable pub shared : (ℕ → Option ℕ) → ℕ → Option ℕ → Option ℕ
+shared bin n none = none
+shared bin n (some v) = cond (ltb n (2 * holders bin n v)) (some v) none
 
 abbrev pub orElse : Option ℕ → Option ℕ → Option ℕ
 orElse none o = o
 orElse (some v) o = some v
 
--- the value of the first bin, among the first i of k heard ones, that more than half of n hold
-unfoldable pub firstShared : (ℕ → ℕ) → ℕ → ℕ → ℕ → Option ℕ
-firstShared bin k n zero = none
-firstShared bin k n (suc i) = orElse (firstShared bin k n i) (cond (ltb n (2 * holders bin k (bin i))) (some (bin i)) none)
+-- the value of the first among the first i bins that more than half of the n share
+unfoldable pub firstShared : (ℕ → Option ℕ) → ℕ → ℕ → Option ℕ
+firstShared bin n zero = none
+firstShared bin n (suc i) = orElse (firstShared bin n i) (shared bin n (bin i))
 
--- the voted value of k heard bins, where more than half is of n
-unfoldable pub majority : (ℕ → ℕ) → ℕ → ℕ → Option ℕ
-majority bin k n = firstShared bin k n k
+-- the voted value of n bins
+unfoldable pub majority : (ℕ → Option ℕ) → ℕ → Option ℕ
+majority bin n = firstShared bin n n
 
 -- "Counters are voted first; with no such value, or one ≥ F, the node's own stays."
 unfoldable pub orOwn : ℕ → ℕ → Option ℕ → ℕ

@@ -1,4 +1,4 @@
-// The vote over bins: the value that more than half share, and what stays where there is none.
+// Everything that counts holders: the value that more than half of the bins share, and the value that most nodes put out.
 pub mod step;
 
 // A value that more than half of the bins share, if there is one.

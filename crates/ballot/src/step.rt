@@ -1,17 +1,18 @@
-// The steps of a vote, for callers that know how many bins there are.
+// The steps of a vote, for callers that know how many bins there are. Of n bins, k hold something; their values stand packed in the front of an array.
 ghost use mathlib.Core.Path.{_≡_};
-ghost use mathlib.Core.Option.{Option·getD};
-ghost use Prim.Native.Nat.{_≤_};
-ghost use lib.ListN.{getD};
-ghost use Rattle.plan.specs.Limits.{mostNodes};
+ghost use mathlib.Core.Option.{some, Option·getD};
+ghost use Prim.Native.Nat.{_<_, _≤_};
+ghost use Rattle.plan.specs.Limits.{mostNodes, mostFrames};
 ghost use Rattle.ballot.specs.Majority.{holders as holdersOf, majority as majorityOf, orOwn, valueOf};
+ghost use Rattle.ballot.specs.Plane.{plane as planeOf};
+ghost use Rattle.ballot.specs.Code.{packed};
 use super::Voted;
 use plan::Plan;
 
 // How many of the first k values are x.
 pub fn holders(values: &[u64; Plan::NODES], k: usize, x: u64) -> usize
     requires { ⌜ k ≤ mostNodes ⌝ }
-    ensures { λ r. ⌜ r ≡ holdersOf (λ j. getD (now (values .entry)) j 0) k x ⌝ }
+    ensures { λ r. ⌜ r ≡ holdersOf (packed (now (values .entry)) k) k x ⌝ }
 {
     let mut held: usize = 0;
     let mut j: usize = 0;
@@ -26,8 +27,8 @@ pub fn holders(values: &[u64; Plan::NODES], k: usize, x: u64) -> usize
 
 // The value of the first of k bins that more than half of n share.
 pub fn majority(values: &[u64; Plan::NODES], k: usize, n: usize) -> Voted
-    requires { ⌜ k ≤ mostNodes ⌝ }
-    ensures { λ r. ⌜ valueOf r ≡ majorityOf (λ j. getD (now (values .entry)) j 0) k n ⌝ }
+    requires { ⌜ (k ≤ n) × (n ≤ mostNodes) ⌝ }
+    ensures { λ r. ⌜ valueOf r ≡ majorityOf (packed (now (values .entry)) k) n ⌝ }
 {
     let mut found = Voted::Nothing;
     let mut i: usize = 0;
@@ -51,7 +52,7 @@ pub fn majority(values: &[u64; Plan::NODES], k: usize, n: usize) -> Voted
 }
 
 pub fn or_own(frames: usize, own: u16, v: Voted) -> u16
-    requires { ⌜ frames ≤ 16 ⌝ }
+    requires { ⌜ frames ≤ mostFrames ⌝ }
     ensures { λ r. ⌜ r ≡ orOwn frames own (valueOf v) ⌝ }
 {
     let Voted::Value(x) = v else {
@@ -70,4 +71,35 @@ pub fn or_old(v: Voted, old: u64) -> u64
         Voted::Value(x) => x,
         Voted::Nothing => old,
     }
+}
+
+// The value that most of k nodes put out; of tied ones that of the lowest holder. By counting the holders of each:
+fn most_held(values: &[u64; Plan::NODES], k: usize) -> u64
+    requires { ⌜ (0 < k) × (k ≤ mostNodes) ⌝ }
+    ensures { λ r. ⌜ some r ≡ planeOf (packed (now (values .entry)) k) k ⌝ }
+{
+    let mut best = values[0];
+    let mut most = holders(values, k, best);
+    let mut i: usize = 1;
+    while i < k {
+        let x = values[i];
+        let held = holders(values, k, x);
+        if most < held {
+            best = x;
+            most = held;
+        }
+        i += 1;
+    }
+    best
+}
+
+// and where more than half put out one value, by that.
+pub fn plane(values: &[u64; Plan::NODES], k: usize) -> u64
+    requires { ⌜ (0 < k) × (k ≤ mostNodes) ⌝ }
+    ensures { λ r. ⌜ some r ≡ planeOf (packed (now (values .entry)) k) k ⌝ }
+{
+    let Voted::Value(x) = majority(values, k, k) else {
+        return most_held(values, k);
+    };
+    x
 }

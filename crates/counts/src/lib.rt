@@ -1,2 +1,2 @@
-// Which nodes are bad in a frame, their good counts, and the listing's two counts.
+// Which nodes are bad in a frame, their good counts, and how many are working.
 pub mod step;

@@ -1,17 +1,12 @@
-// The counts of a system, for callers that know the plan to be accepted and its period.
+// Bad nodes and good counts, for callers that know how many nodes there are, and the plan's period.
 ghost use mathlib.Core.Path.{_≡_};
-ghost use mathlib.Core.Bool.{true, cond, _&&_};
-ghost use Prim.Native.Nat.{_+_, _<_, _≤_, min};
+ghost use Prim.Native.Nat.{_<_, _≤_};
 ghost use lib.Dec.{eqb, leb, ltb};
 ghost use lib.ListN.{getD};
 ghost use Rattle.array.specs.Index.{howMany, allBelow, fill};
 ghost use Rattle.array.specs.Bit.{bit};
-ghost use Rattle.plan.specs.Limits.{mostNodes, mostCells};
-ghost use Rattle.plan.specs.Known.{period as periodOf};
-ghost use Rattle.plan.specs.Accepted.{accepted};
-ghost use Rattle.system.specs.Frame.{memoryOf, isWorking, sameMemory};
-use memory::Memory;
-use plan::Plan;
+ghost use Rattle.plan.specs.Limits.{mostNodes};
+ghost use Rattle.system.specs.Counts.{countAfter, goodAfter, isWorking};
 use system::System;
 
 // Bit i of the mask.
@@ -43,9 +38,9 @@ pub fn counts_ok(good: &[u16; System::NODES], nodes: usize, period: usize) -> bo
     true
 }
 
-pub fn count_after(bad: bool, count: u16, period: usize) -> u16
+fn count_after(bad: bool, count: u16, period: usize) -> u16
     requires { ⌜ period < 65536 ⌝ }
-    ensures { λ r. ⌜ r ≡ cond bad 0 (min period (count + 1)) ⌝ }
+    ensures { λ r. ⌜ r ≡ countAfter period bad count ⌝ }
 {
     if bad {
         return 0;
@@ -56,71 +51,33 @@ pub fn count_after(bad: bool, count: u16, period: usize) -> u16
     period as u16
 }
 
-pub fn counts(
-    good: [u16; System::NODES],
-    nodes: usize,
-    mask: u64,
-    period: usize,
-) -> [u16; System::NODES]
+// The good counts after a frame with this mask.
+pub fn counts(good: &mut [u16; System::NODES], nodes: usize, mask: u64, period: usize)
     requires { ⌜ (nodes ≤ mostNodes) × (period < 65536) ⌝ }
-    ensures { λ r. ⌜ r ≡ fill (λ i. cond (bit mask i) 0 (min period (getD good i 0 + 1))) nodes good ⌝ }
+    ensures { λ _. ⌜ now (good .exit) ≡ fill (goodAfter period mask (now (good .entry))) nodes (now (good .entry)) ⌝ }
 {
-    let mut next = good;
     let mut i: usize = 0;
     while i < nodes {
-        next[i] = count_after(is_bad(mask, i), next[i], period);
+        good[i] = count_after(is_bad(mask, i), good[i], period);
         i += 1;
     }
-    next
+}
+
+fn is_full(count: u16, period: usize) -> bool
+    ensures { λ r. ⌜ r ≡ eqb count period ⌝ }
+{
+    count as usize == period
 }
 
 // How many nodes are working in a frame with this mask.
-pub fn working(plan: Plan, period: usize, system: System, mask: u64) -> usize
-    requires { ⌜ (accepted plan ≡ true) × (period ≡ periodOf plan) ⌝ }
-    ensures { λ r. ⌜ r ≡ howMany (isWorking plan system mask) (plan .nodes) ⌝ }
+pub fn working(good: &[u16; System::NODES], nodes: usize, period: usize, mask: u64) -> usize
+    requires { ⌜ nodes ≤ mostNodes ⌝ }
+    ensures { λ r. ⌜ r ≡ howMany (isWorking period mask (now (good .entry))) nodes ⌝ }
 {
-    let nodes = plan.nodes;
     let mut count: usize = 0;
     let mut i: usize = 0;
     while i < nodes {
-        if !is_bad(mask, i) & (system.good[i] as usize == period) {
-            count += 1;
-        }
-        i += 1;
-    }
-    count
-}
-
-// Counter and cells are compared by bits.
-fn same_memory(cells: usize, m: Memory, s: Memory) -> bool
-    requires { ⌜ cells ≤ mostCells ⌝ }
-    ensures { λ r. ⌜ r ≡ (eqb (m .counter) (s .counter) && allBelow (λ c. eqb (getD (m .cells) c 0) (getD (s .cells) c 0)) cells) ⌝ }
-{
-    if m.counter != s.counter {
-        return false;
-    }
-    let mut c: usize = 0;
-    while c < cells {
-        if m.cells[c] != s.cells[c] {
-            return false;
-        }
-        c += 1;
-    }
-    true
-}
-
-// How many nodes have the single controller's memory.
-pub fn agreeing(plan: Plan, system: System, memory: Memory) -> usize
-    requires { ⌜ accepted plan ≡ true ⌝ }
-    ensures { λ r. ⌜ r ≡ howMany (λ i. sameMemory plan (memoryOf system i) memory) (plan .nodes) ⌝ }
-{
-    let nodes = plan.nodes;
-    let cells = plan.cells;
-    let mut count: usize = 0;
-    let mut i: usize = 0;
-    while i < nodes {
-        let m = system.memories[i];
-        if same_memory(cells, m, memory) {
+        if !is_bad(mask, i) & is_full(good[i], period) {
             count += 1;
         }
         i += 1;

@@ -1,8 +1,9 @@
 -- Laws for the proofs of the calls: what is answered, and what becomes of record and place, by the way a call goes.
-use mathlib.Core.Path.{_≡_}
+use mathlib.Core.Path.{_≡_, sym, subst}
 use mathlib.Core.Bool.{true, false, _&&_}
 use mathlib.Core.List.{List}
 use Prim.Native.Nat.{ℕ}
+use native.Mathlib.Omega.{arith}
 use lib.Dec.{eqb}
 use lib.ListN.{length}
 use borrow.Author.Tests.{eqb-true}
@@ -10,14 +11,21 @@ use Rattle.array.specs.Index.{howMany, fill}
 use Rattle.array.proofs.TestLaws.{and-left, and-right}
 use Rattle.answer.specs.declared.Answer.the-variants.{Done, InvalidPlan, WrongLength, MaskOrCount}
 use Rattle.plan.specs.declared.Plan.{Plan}
+use Rattle.plan.specs.declared.Sizes.{Sizes}
 use Rattle.plan.specs.Accepted.{accepted}
 use Rattle.memory.specs.declared.Memory.{Memory}
 use Rattle.node.specs.declared.Outcome.{Outcome}
 use Rattle.memory.specs.Node.{computed, setpoint}
+use Rattle.plan.specs.Known.{period}
+use Rattle.plan.specs.Sizes.{numbersOf, sizesOf}
+use Rattle.plan.proofs.AcceptedLaws.{shape-of-accepted}
 use Rattle.system.specs.Fault.{faultsSize}
+use Rattle.system.specs.Counts.{isWorking}
 use Rattle.system.specs.declared.System.{System}
+use Rattle.faults.specs.Code.{Small, Parts}
+use Rattle.faults.proofs.PartLaws.{parts-all}
 use Rattle.system.specs.declared.Framed.{Framed}
-use Rattle.system.specs.Frame.{memoryOf, maskOk, countsOk, lengthsOk, inTurn, frameRuns, frameAnswer, framePlace, systemAfter, placeAfter, singlePlace, singleRuns, singleAnswer, singlePlaceAfter, isWorking, workingAnswer, sameMemory, agreeingAnswer}
+use Rattle.system.specs.Frame.{memoryOf, maskOk, countsOk, lengthsOk, inTurn, frameRuns, frameAnswer, framePlace, systemAfter, placeAfter, singlePlace, singleRuns, singleAnswer, singlePlaceAfter, workingAnswer, sameMemory, agreeingAnswer}
 
 -- ---- a frame
 
@@ -89,9 +97,9 @@ module _ (p : Plan) (sys : System) (mask : ℕ) where
     unfolding workingAnswer inTurn
     working-mask m = rw (a, m)
 
-    pub working-done : (maskOk p mask && countsOk p sys) ≡ true → {n : ℕ} → n ≡ howMany (isWorking p sys mask) (p .nodes) → record { answer = Done; count = n } ≡ workingAnswer p sys mask
+    pub working-done : (maskOk p mask && countsOk p sys) ≡ true → {n r : ℕ} → r ≡ period p → n ≡ howMany (isWorking r mask (sys .good)) (p .nodes) → record { answer = Done; count = n } ≡ workingAnswer p sys mask
     unfolding workingAnswer inTurn
-    working-done m e = rw (a, m, e)
+    working-done m h e = rw (a, m, e, h)
 
 module _ (p : Plan) (sys : System) (s : Memory) where
   pub agreeing-plan : accepted p ≡ false → record { answer = InvalidPlan; count = 0 } ≡ agreeingAnswer p sys s
@@ -107,13 +115,23 @@ module _ (p : Plan) (sys : System) (s : Memory) where
     unfolding agreeingAnswer inTurn
     agreeing-done m e = rw (a, m, e)
 
+-- ---- the fault bytes of the exact length have every part
+
+pub small-numbers : (p : Plan) → accepted p ≡ true → {r : ℕ} {s : Sizes} → s ≡ numbersOf p r → Small s
+small-numbers p a {r} e =
+    let h = shape-of-accepted p a in
+    subst Small (sym e) (record { nodes = h .nodes-high; cells = h .cells-le; actuators = h .actuators-le })
+
+pub parts-exact : (p : Plan) {s : Sizes} (mask len : ℕ) → s ≡ sizesOf p → len ≡ faultsSize (sizesOf p) → Parts s mask len
+parts-exact p mask len e l = subst (λ (z : Sizes). Parts z mask len) (sym e) (parts-all (sizesOf p) mask len (omega arith))
+
 -- ---- the lengths that the test tells
 
-pub lengths-told : (p : Plan) (sensors faults place : ℕ) → lengthsOk p sensors faults place ≡ true → (sensors ≡ p .sensors) × (faults ≡ faultsSize p) × (place ≡ p .actuators)
+pub lengths-told : (p : Plan) (sensors faults place : ℕ) → lengthsOk p sensors faults place ≡ true → (sensors ≡ p .sensors) × (faults ≡ faultsSize (sizesOf p)) × (place ≡ p .actuators)
 unfolding lengthsOk
 lengths-told p sensors faults place h =
-    let front : (eqb sensors (p .sensors) && eqb faults (faultsSize p)) ≡ true = and-left (eqb sensors (p .sensors) && eqb faults (faultsSize p)) (eqb place (p .actuators)) h in (
-      eqb-true _ _ (and-left (eqb sensors (p .sensors)) (eqb faults (faultsSize p)) front),
-      eqb-true _ _ (and-right (eqb sensors (p .sensors)) (eqb faults (faultsSize p)) front),
-      eqb-true _ _ (and-right (eqb sensors (p .sensors) && eqb faults (faultsSize p)) (eqb place (p .actuators)) h),
+    let front : (eqb sensors (p .sensors) && eqb faults (faultsSize (sizesOf p))) ≡ true = and-left (eqb sensors (p .sensors) && eqb faults (faultsSize (sizesOf p))) (eqb place (p .actuators)) h in (
+      eqb-true _ _ (and-left (eqb sensors (p .sensors)) (eqb faults (faultsSize (sizesOf p))) front),
+      eqb-true _ _ (and-right (eqb sensors (p .sensors)) (eqb faults (faultsSize (sizesOf p))) front),
+      eqb-true _ _ (and-right (eqb sensors (p .sensors) && eqb faults (faultsSize (sizesOf p))) (eqb place (p .actuators)) h),
     )

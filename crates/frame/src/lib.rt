@@ -3,9 +3,13 @@ ghost use mathlib.Core.Path.{_≡_};
 ghost use mathlib.Core.Bool.{true};
 ghost use Prim.Native.Nat.{_≤_, _^_};
 ghost use lib.Dec.{ltb};
+ghost use lib.ListN.{length};
 ghost use Rattle.plan.specs.Limits.{mostNodes};
 ghost use Rattle.plan.specs.Accepted.{accepted};
-ghost use Rattle.system.specs.Frame.{lengthsOk, frameAnswer, framePlace, singleAnswer, singlePlaceAfter, workingAnswer, agreeingAnswer};
+ghost use Rattle.plan.specs.Known.{period as periodOf};
+ghost use Rattle.plan.specs.Sizes.{sizesOf};
+ghost use Rattle.system.specs.Fault.{faultsSize};
+ghost use Rattle.system.specs.Frame.{lengthsOk, systemAfter, placeAfter, frameAnswer, framePlace, singleAnswer, singlePlaceAfter, workingAnswer, agreeingAnswer};
 use answer::Answer;
 use memory::Memory;
 use node::Outcome;
@@ -27,12 +31,42 @@ fn lengths_ok(plan: Plan, sensors: usize, faults: usize, place: usize) -> bool
     requires { ⌜ accepted plan ≡ true ⌝ }
     ensures { λ r. ⌜ r ≡ lengthsOk plan sensors faults place ⌝ }
 {
-    let nodes = plan.nodes;
-    let cells = plan.cells;
-    let actuators = plan.actuators;
     (sensors == plan.sensors)
-        & (faults == nodes * exchange::step::fault_size(nodes, cells, actuators))
-        & (place == actuators)
+        & (faults == faults::step::size(plan::numbers_of(plan, 0)))
+        & (place == plan.actuators)
+}
+
+// The record on rows, a frame of them, and the record again.
+fn on_rows(
+    plan: Plan,
+    period: usize,
+    system: System,
+    sensors: &[u64],
+    mask: u64,
+    faults: &[u8],
+    place: &mut [u64],
+) -> System
+    requires { ⌜ (accepted plan ≡ true) × (period ≡ periodOf plan) × (length (now sensors) ≡ plan .sensors) × (length (now faults) ≡ faultsSize (sizesOf plan)) × (length (now place) ≡ plan .actuators) ⌝ }
+    ensures { λ r. ⌜ (r ≡ systemAfter plan system (now (sensors .entry)) mask (now (faults .entry))) × (now (place .exit) ≡ placeAfter plan system (now (sensors .entry)) mask (now (faults .entry)) (now (place .entry))) ⌝ }
+{
+    let s = plan::numbers_of(plan, period);
+    let mut good = system.good;
+    let mut counters = [0u16; rows::step::ROWS];
+    let mut cells = [0u64; rows::step::WORDS];
+    rows::step::unpack(system, &mut counters, &mut cells);
+    row_frame::step::frame(
+        plan,
+        s,
+        1,
+        sensors,
+        mask,
+        faults,
+        &mut counters,
+        &mut cells,
+        &mut good,
+        place,
+    );
+    rows::step::pack(&counters, &cells, good)
 }
 
 pub fn frame(
@@ -65,7 +99,7 @@ pub fn frame(
             system,
         };
     }
-    let next = phases::step::frame(plan, period, system, sensors, mask, faults, place);
+    let next = on_rows(plan, period, system, sensors, mask, faults, place);
     Framed {
         answer: Answer::Done,
         system: next,
@@ -114,7 +148,7 @@ pub fn working(plan: Plan, system: System, mask: u64) -> Counted
             count: 0,
         };
     }
-    let count = counts::step::working(plan, period, system, mask);
+    let count = counts::step::working(&system.good, n, period, mask);
     Counted {
         answer: Answer::Done,
         count,
@@ -138,7 +172,11 @@ pub fn agreeing(plan: Plan, system: System, memory: Memory) -> Counted
             count: 0,
         };
     }
-    let count = counts::step::agreeing(plan, system, memory);
+    let mut counters = [0u16; rows::step::ROWS];
+    let mut cells = [0u64; rows::step::WORDS];
+    rows::step::put_memory(memory, 0, &mut counters, &mut cells);
+    rows::step::unpack(system, &mut counters, &mut cells);
+    let count = rows::step::agreeing(&counters, &cells, nodes, plan.cells);
     Counted {
         answer: Answer::Done,
         count,

@@ -2,7 +2,7 @@
 use mathlib.Core.Path.{_≡_, refl, sym, ap, _∙_}
 use mathlib.Core.Bool.{Bool, true, false, cond, _&&_}
 use mathlib.Core.List.{List, [], _∷_}
-use mathlib.Core.Option.{Option, none, some}
+use mathlib.Core.Option.{Option, none, some, Option·getD}
 use Prim.Native.Nat.{ℕ, zero, suc, _+_, _-_, _^_, _≤_, _<_, min}
 use native.Mathlib.Omega.{arith}
 use native.Mathlib.Nat.{min-eq-left, min-eq-right, min-le-right, le-min}
@@ -18,9 +18,9 @@ use Rattle.column.specs.Row.{numbersOf}
 use Rattle.column.proofs.RowLaws.{total, room-count, room-of-numbers, numbers-length}
 use Rattle.plan.specs.declared.Plan.{Plan}
 use Rattle.plan.specs.Limits.{mostActuators}
+use Rattle.ballot.specs.Plane.{plane}
 use Rattle.memory.specs.declared.Memory.{Memory}
 use Rattle.system.specs.declared.System.{System}
-use Rattle.system.specs.Plane.{plane}
 use Rattle.system.specs.Frame.{putOut, placeAfter}
 use Rattle.lines.specs.declared.step.Stepped.{Stepped}
 use Rattle.lines.specs.Line.{patternWidth, runWidths, runLineSize, maskIn, fillIn, inLimits, runNumbers}
@@ -69,6 +69,10 @@ front-length out {n} {m} e l = let z : n - 0 ≡ m = omega (arith, e) in rw z (l
 -- ---- the frame of a line
 
 module _ (p : Plan) (sys : System) (sensors faults zeros place : List ℕ) (mask : ℕ) where
+  -- what the plane hands on for an actuator
+  abbrev handed : ℕ → ℕ
+  handed a = Option·getD (plane (putOut p sys sensors mask faults a) (p .nodes)) 0
+
   -- the plane values, of a place that was zero
   pub planes-lent :
       zeros ≡ replicate mostActuators 0 →
@@ -80,8 +84,8 @@ module _ (p : Plan) (sys : System) (sensors faults zeros place : List ℕ) (mask
       let n : p .actuators - 0 ≡ p .actuators = omega arith in
       let t : take (p .actuators - 0) (drop 0 zeros) ≡ replicate (p .actuators) 0 = rw (n, z) (take-replicate (p .actuators) mostActuators 0 l) in
       let k : length place ≡ p .actuators =
-      ap length e ∙ fill-length (λ a. plane (putOut p sys sensors mask faults a) (p .nodes)) (p .actuators) (take (p .actuators - 0) (drop 0 zeros)) ∙ ap length t ∙ length-replicate (p .actuators) 0 in
-      front-back zeros place (p .actuators) k ∙ e ∙ ap (λ (x : List ℕ). fill (λ a. plane (putOut p sys sensors mask faults a) (p .nodes)) (p .actuators) x) t
+      ap length e ∙ fill-length handed (p .actuators) (take (p .actuators - 0) (drop 0 zeros)) ∙ ap length t ∙ length-replicate (p .actuators) 0 in
+      front-back zeros place (p .actuators) k ∙ e ∙ ap (fill handed (p .actuators)) t
 
 -- ---- the line's numbers
 
@@ -159,16 +163,20 @@ module _ (p : Plan) (sys : System) (single : Memory) (frame : ℕ) (r : Stepped)
   unfolding stepAnswer stepPlace
   step-refused e h = rw e ((λ i. record { taken = h .0 i; system = h .1 i; single = h .2 i }), refl)
 
+  -- `first` is the single controller, as its row holds it
   pub step-taken :
-      (place l : List ℕ) →
+      (place l : List ℕ) {first : Memory} →
       o ≡ some l →
+      first ≡ single →
       r .taken ≡ true →
       r .system ≡ systemNext p sys l →
-      r .single ≡ singleNext p single l →
-      out ≡ frameLine p sys single frame l →
+      r .single ≡ singleNext p first l →
+      out ≡ frameLine p sys first frame l →
       (r ≡ stepAnswer p sys single o) × (out ≡ stepPlace p sys single frame o place)
   unfolding stepAnswer stepPlace
-  step-taken place l e t a b f = rw e ((λ i. record { taken = t i; system = a i; single = b i }), f)
+  step-taken place l e m t a b f =
+      let g : r .single ≡ singleNext p single l = b ∙ rw m in
+      rw e ((λ i. record { taken = t i; system = a i; single = g i }), f ∙ rw m)
 
 -- what a step that was or was not taken says of the numbers
 pub taken-none : (p : Plan) (sys : System) (single : Memory) (r : Stepped) (o : Option (List ℕ)) → r ≡ stepAnswer p sys single o → r .taken ≡ false → o ≡ none

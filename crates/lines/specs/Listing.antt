@@ -11,6 +11,8 @@ use Rattle.column.specs.Row.{row}
 use Rattle.answer.specs.declared.Answer.{Answer}
 use Rattle.answer.specs.declared.Answer.the-variants.{RunLine}
 use Rattle.plan.specs.declared.Plan.{Plan}
+use Rattle.plan.specs.Known.{period}
+use Rattle.plan.specs.Sizes.{sizesOf}
 use Rattle.text.specs.Meant.{planOf}
 use Rattle.text.specs.Refused.{textRefusal}
 use Rattle.memory.specs.declared.Memory.{Memory}
@@ -18,7 +20,8 @@ use Rattle.memory.specs.Node.{poweredOn, computed}
 use Rattle.system.specs.declared.System.{System}
 use Rattle.system.specs.System.{powerOn}
 use Rattle.system.specs.Fault.{faultsSize}
-use Rattle.system.specs.Frame.{memoryOf, systemAfter, placeAfter, isWorking, sameMemory}
+use Rattle.system.specs.Counts.{isWorking}
+use Rattle.system.specs.Frame.{memoryOf, systemAfter, placeAfter, sameMemory}
 use Rattle.lines.specs.Line.{runLineSize, maskIn, fillIn, sensorsIn, runNumbers, printedWidths, refusalLine}
 
 -- "10: .. or line 100,001"
@@ -43,7 +46,7 @@ lineNumbers p frame line = cond (ltb frame mostLines) (runNumbers (p .nodes) (p 
 module _ (p : Plan) (sys : System) (l : List ℕ) where
   -- "all fault bytes of the frame equal fill"
   unfoldable pub faultBytes : List ℕ
-  faultBytes = replicate (faultsSize p) (fillIn l)
+  faultBytes = replicate (faultsSize (sizesOf p)) (fillIn l)
 
   unfoldable pub systemNext : System
   systemNext = systemAfter p sys (sensorsIn l) (maskIn l) faultBytes
@@ -52,7 +55,7 @@ module _ (p : Plan) (sys : System) (l : List ℕ) where
   planes = placeAfter p sys (sensorsIn l) (maskIn l) faultBytes (replicate (p .actuators) 0)
 
   unfoldable pub working : ℕ
-  working = howMany (isWorking p sys (maskIn l)) (p .nodes)
+  working = howMany (isWorking (period p) (maskIn l) (sys .good)) (p .nodes)
 
 unfoldable pub singleNext : Plan → Memory → List ℕ → Memory
 singleNext p single l = computed p (sensorsIn l) single

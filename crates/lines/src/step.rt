@@ -1,7 +1,7 @@
 // The steps of a run, for callers that know the plan to be accepted, its period, and the lengths to be right.
 ghost use mathlib.Core.Path.{_≡_};
 ghost use mathlib.Core.Bool.{true, false, cond};
-ghost use mathlib.Core.List.{List, _∷_, _++_, []};
+ghost use mathlib.Core.List.{_∷_, _++_, []};
 ghost use mathlib.Core.Option.{none};
 ghost use Prim.Native.Nat.{ℕ, _+_, _*_, _<_, _≤_, min};
 ghost use lib.Dec.{ltb};
@@ -11,9 +11,12 @@ ghost use Rattle.column.specs.Column.{column};
 ghost use Rattle.column.specs.Row.{row, numbersFrom};
 ghost use Rattle.plan.specs.Accepted.{accepted};
 ghost use Rattle.plan.specs.Known.{period as periodOf};
-ghost use Rattle.plan.specs.Limits.{mostNodes, mostFrames, mostCells, mostSensors, mostActuators};
+ghost use Rattle.plan.specs.Limits.{mostNodes, mostSensors, mostActuators};
 ghost use Rattle.array.specs.Place.{placed};
-ghost use Rattle.rows.specs.Rows.{rowCount, wordCount, Rows, Ready, Lent};
+ghost use Rattle.plan.specs.Sizes.{sizesOf};
+ghost use Rattle.system.specs.Fault.{faultsSize};
+ghost use Rattle.faults.specs.Code.{Parts, Held, BadHold};
+ghost use Rattle.rows.specs.Rows.{rowCount, wordCount, memoryIn, Rows};
 ghost use Rattle.lines.specs.Line.{runLineSize, printedWidths, printedSize, patternWidth, sensorsAt, runNumbers, planesAt, refusalLine, refusalSize};
 ghost use Rattle.lines.specs.Listing.{mostLines, lineNumbers, systemNext, singleNext, frameLine};
 ghost use Rattle.lines.specs.Step.{blockLines, stepAnswer, stepPlace, printedWith, linesAnswer, linesPlace, ifRead, lineRead};
@@ -23,6 +26,7 @@ use answer::Answer;
 use memory::Memory;
 use numeral::Number;
 use plan::Plan;
+use plan::Sizes;
 use system::System;
 
 // A run has at most so many lines.
@@ -30,6 +34,35 @@ pub const LINES: usize = 100000;
 
 // The most lines that one call of `lines` runs.
 pub const BLOCK: usize = 128;
+
+// A pattern's column, in run lines and in the listing.
+const PATTERN: usize = 20;
+
+// Of a run line: where the mask ends, and the fill, behind which the patterns stand.
+const MASK: usize = 4;
+
+const FILL: usize = 8;
+
+// Of a listing line: where the frame number ends, and the two counts, behind which the plane values stand.
+const FRAME: usize = 8;
+
+const WORKING: usize = 12;
+
+const AGREEING: usize = 16;
+
+// A count's column.
+const COUNT: usize = 4;
+
+// Of a refusal's line: where number and line end.
+const NUMBER: usize = 4;
+
+const LINE: usize = 12;
+
+// The column of its line number.
+const LINE_NUMBER: usize = 8;
+
+// A refusal's line with its line feed.
+pub const REFUSAL: usize = LINE + 1;
 
 // ---- a run line
 
@@ -48,8 +81,8 @@ fn read_patterns(line: &[u8], count: usize, patterns: &mut [u64; Plan::SENSORS])
     *patterns = [0; Plan::SENSORS];
     let mut k: usize = 0;
     while k < count {
-        let at = 8 + 20 * k;
-        let Number::Value(v) = column::step::read_wide(line, at, at + 20) else {
+        let at = FILL + PATTERN * k;
+        let Number::Value(v) = column::step::read_wide(line, at, at + PATTERN) else {
             return false;
         };
         patterns[k] = v;
@@ -68,17 +101,17 @@ fn read_line(
     requires { ⌜ (nodes ≤ mostNodes) × (sensors ≤ mostSensors) ⌝ }
     ensures { λ r. ⌜ lineRead r (take sensors (now (patterns .exit))) ≡ runNumbers nodes sensors (now (line .entry)) ⌝ }
 {
-    let end = 8 + 20 * sensors;
+    let end = FILL + PATTERN * sensors;
     if line.len() != end + 1 {
         return LineRead::Refused;
     }
-    if line[end] != 10 {
+    if line[end] != b'\n' {
         return LineRead::Refused;
     }
-    let Number::Value(mask) = column::read(line, 0, 4) else {
+    let Number::Value(mask) = column::read(line, 0, MASK) else {
         return LineRead::Refused;
     };
-    let Number::Value(fill) = column::read(line, 4, 8) else {
+    let Number::Value(fill) = column::read(line, MASK, FILL) else {
         return LineRead::Refused;
     };
     if mask >> nodes != 0 {
@@ -110,10 +143,10 @@ fn put_planes(out: &mut [u8], planes: &[u64; Plan::ACTUATORS], count: usize)
 {
     let mut a: usize = 0;
     while a < count {
-        put(out, 16 + 20 * a, 20, planes[a]);
+        put(out, AGREEING + PATTERN * a, PATTERN, planes[a]);
         a += 1;
     }
-    out[16 + 20 * count] = 10;
+    out[AGREEING + PATTERN * count] = b'\n';
 }
 
 // The line of a frame.
@@ -128,9 +161,9 @@ fn write_frame(
     requires { ⌜ (count ≤ mostActuators) × (length (now out) ≡ printedSize count) ⌝ }
     ensures { λ _. ⌜ now (out .exit) ≡ row (printedWidths count) (frame ∷ working ∷ agreeing ∷ take count (now (planes .entry))) ⌝ }
 {
-    put(out, 0, 8, frame as u64);
-    put(out, 8, 4, working as u64);
-    put(out, 12, 4, agreeing as u64);
+    put(out, 0, FRAME, frame as u64);
+    put(out, FRAME, COUNT, working as u64);
+    put(out, WORKING, COUNT, agreeing as u64);
     put_planes(out, planes, count);
 }
 
@@ -139,9 +172,9 @@ pub fn write_refusal(out: &mut [u8], answer: Answer)
     requires { ⌜ refusalSize ≤ length (now out) ⌝ }
     ensures { λ _. ⌜ now (out .exit) ≡ placed (now (out .entry)) 0 (refusalLine answer) ⌝ }
 {
-    put(out, 0, 4, answer.number() as u64);
-    put(out, 4, 8, answer.line() as u64);
-    out[12] = 10;
+    put(out, 0, NUMBER, answer.number() as u64);
+    put(out, NUMBER, LINE_NUMBER, answer.line() as u64);
+    out[LINE] = b'\n';
 }
 
 // ---- the steps
@@ -157,14 +190,14 @@ pub fn line_size(sensors: usize) -> usize
     requires { ⌜ sensors ≤ mostSensors ⌝ }
     ensures { λ r. ⌜ r ≡ runLineSize sensors ⌝ }
 {
-    9 + 20 * sensors
+    FILL + PATTERN * sensors + 1
 }
 
 pub fn printed_size(actuators: usize) -> usize
     requires { ⌜ actuators ≤ mostActuators ⌝ }
     ensures { λ r. ⌜ r ≡ printedSize actuators ⌝ }
 {
-    17 + 20 * actuators
+    AGREEING + PATTERN * actuators + 1
 }
 
 // Where the part of `size` from a place on ends, in bytes of a length.
@@ -205,15 +238,47 @@ fn frame_numbers(
     read_line(line, nodes, sensors, patterns)
 }
 
-// The frame of rows that have run their tasks, and its line.
-fn finish_line<'a>(
-    voted: &'a [bool; Plan::VOTES],
-    table: &'a [usize; Plan::ACTUATORS],
-    nodes: usize,
-    frames: usize,
-    count: usize,
-    actuators: usize,
-    period: usize,
+// A frame on rows, and its line. The contract speaks for every byte that the bad nodes' parts hold.
+fn finish_line(
+    plan: Plan,
+    s: Sizes,
+    sensors: &[u64],
+    mask: u64,
+    faults: &[u8],
+    frame: usize,
+    counters: &mut [u16],
+    cells: &mut [u64],
+    good: &mut [u16; System::NODES],
+    out: &mut [u8],
+)
+    requires { ⌜ (accepted plan ≡ true) × (s ≡ sizesOf plan) × (length (now sensors) ≡ plan .sensors) × Parts s mask (length (now faults)) × (length (now counters) ≡ rowCount) × (length (now cells) ≡ wordCount) × (length (now out) ≡ printedSize (plan .actuators)) ⌝ }
+    ensures { λ _. ⌜ ((sys : System) (x : ℕ) → Rows sys (now (counters .entry)) (now (cells .entry)) (now (good .entry)) → BadHold s mask (now (faults .entry)) x → Rows (systemNext plan sys (mask ∷ x ∷ now (sensors .entry))) (now (counters .exit)) (now (cells .exit)) (now (good .exit)) × (memoryIn (now (counters .exit)) (now (cells .exit)) 0 ≡ singleNext plan (memoryIn (now (counters .entry)) (now (cells .entry)) 0) (mask ∷ x ∷ now (sensors .entry))) × (now (out .exit) ≡ frameLine plan sys (memoryIn (now (counters .entry)) (now (cells .entry)) 0) frame (mask ∷ x ∷ now (sensors .entry)))) ⌝ }
+{
+    let nodes = s.nodes;
+    let actuators = s.actuators;
+    let working = counts::step::working(good, nodes, s.period, mask);
+    let mut planes = [0u64; Plan::ACTUATORS];
+    row_frame::step::frame(
+        plan,
+        s,
+        0,
+        sensors,
+        mask,
+        faults,
+        counters,
+        cells,
+        good,
+        &mut planes[0..actuators],
+    );
+    let agreeing = rows::step::agreeing(counters, cells, nodes, s.cells);
+    write_frame(out, frame, working, agreeing, &planes, actuators);
+}
+
+// A line by itself, with fault bytes of its own where a node is bad.
+fn line_alone(
+    plan: Plan,
+    s: Sizes,
+    sensors: &[u64],
     mask: u64,
     fill: u64,
     frame: usize,
@@ -222,27 +287,40 @@ fn finish_line<'a>(
     good: &mut [u16; System::NODES],
     out: &mut [u8],
 )
-    requires { ⌜ (length (now counters) ≡ rowCount) × (length (now cells) ≡ wordCount) × (0 < nodes) × (nodes ≤ mostNodes) × (0 < frames) × (frames ≤ mostFrames) × (count ≤ mostCells) × (period < 65536) × (fill ≤ 255) × (actuators ≤ mostActuators) × ((a : ℕ) → a < actuators → getD (now table) a 0 < mostCells) × (length (now out) ≡ printedSize actuators) ⌝ }
-    ensures { λ _. ⌜ ((p : Plan) (sys : System) (single : Memory) (sensors : List ℕ) → Lent p (now (voted .entry)) (now (table .entry)) nodes frames count → p .actuators ≡ actuators → period ≡ periodOf p → Ready p sys single sensors (now (counters .entry)) (now (cells .entry)) (now (good .entry)) → Rows (systemNext p sys (mask ∷ fill ∷ sensors)) (singleNext p single (mask ∷ fill ∷ sensors)) (now (counters .exit)) (now (cells .exit)) (now (good .exit)) × (now (out .exit) ≡ frameLine p sys single frame (mask ∷ fill ∷ sensors))) ⌝ }
+    requires { ⌜ (accepted plan ≡ true) × (s ≡ sizesOf plan) × (length (now sensors) ≡ plan .sensors) × (fill ≤ 255) × (length (now counters) ≡ rowCount) × (length (now cells) ≡ wordCount) × (length (now out) ≡ printedSize (plan .actuators)) ⌝ }
+    ensures { λ _. ⌜ ((sys : System) → Rows sys (now (counters .entry)) (now (cells .entry)) (now (good .entry)) → Rows (systemNext plan sys (mask ∷ fill ∷ now (sensors .entry))) (now (counters .exit)) (now (cells .exit)) (now (good .exit)) × (memoryIn (now (counters .exit)) (now (cells .exit)) 0 ≡ singleNext plan (memoryIn (now (counters .entry)) (now (cells .entry)) 0) (mask ∷ fill ∷ now (sensors .entry))) × (now (out .exit) ≡ frameLine plan sys (memoryIn (now (counters .entry)) (now (cells .entry)) 0) frame (mask ∷ fill ∷ now (sensors .entry)))) ⌝ }
 {
-    let working = rows::step::working(good, nodes, period, mask);
-    let mut planes = [0u64; Plan::ACTUATORS];
-    row_phases::step::finish(
-        voted,
-        table,
-        nodes,
-        frames,
-        count,
-        period,
+    if mask == 0 {
+        finish_line(
+            plan,
+            s,
+            sensors,
+            mask,
+            b"",
+            frame,
+            counters,
+            cells,
+            good,
+            out,
+        );
+        return;
+    }
+    let size = faults::step::size(s);
+    let mut held = [0u8; System::NODES];
+    let mut faults = [0u8; faults::step::MOST];
+    faults::step::hold(s, mask, fill, &mut held, &mut faults[0..size]);
+    finish_line(
+        plan,
+        s,
+        sensors,
         mask,
-        fill,
+        &faults[0..size],
+        frame,
         counters,
         cells,
         good,
-        &mut planes[0..actuators],
+        out,
     );
-    let agreeing = rows::step::agreeing(counters, cells, nodes, count);
-    write_frame(out, frame, working, agreeing, &planes, actuators);
 }
 
 // One line of a run: a frame, or nothing where the line is refused.
@@ -264,19 +342,16 @@ pub fn line(
     else {
         return refused(system, single);
     };
+    let s = plan::numbers_of(plan, period);
     let mut good = system.good;
     let mut counters = [0u16; rows::step::ROWS];
     let mut cells = [0u64; rows::step::WORDS];
-    rows::step::unpack(system, single, &mut counters, &mut cells);
-    rows::step::compute(plan, &patterns[0..sensors], &mut counters, &mut cells);
-    finish_line(
-        &plan.voted,
-        &plan.actuator_cell,
-        plan.nodes,
-        plan.frames,
-        plan.cells,
-        plan.actuators,
-        period,
+    rows::step::put_memory(single, 0, &mut counters, &mut cells);
+    rows::step::unpack(system, &mut counters, &mut cells);
+    line_alone(
+        plan,
+        s,
+        &patterns[0..sensors],
         mask,
         fill,
         frame,
@@ -285,8 +360,8 @@ pub fn line(
         &mut good,
         out,
     );
-    let after = rows::step::pack_system(&counters, &cells, good);
-    let memory = rows::step::pack_single(&counters, &cells);
+    let after = rows::step::pack(&counters, &cells, good);
+    let memory = rows::step::memory(0, &counters, &cells);
     Stepped {
         taken: true,
         system: after,
@@ -306,10 +381,10 @@ fn stopped(
     frame: usize,
 ) -> Printed
     requires { ⌜ (length (now counters) ≡ rowCount) × (length (now cells) ≡ wordCount) ⌝ }
-    ensures { λ r. ⌜ ((sys : System) (single : Memory) → Rows sys single (now (counters .entry)) (now (cells .entry)) good → r ≡ printedWith answer count plan period sys single frame) ⌝ }
+    ensures { λ r. ⌜ ((sys : System) → Rows sys (now (counters .entry)) (now (cells .entry)) good → r ≡ printedWith answer count plan period sys (memoryIn (now (counters .entry)) (now (cells .entry)) 0) frame) ⌝ }
 {
-    let system = rows::step::pack_system(counters, cells, good);
-    let single = rows::step::pack_single(counters, cells);
+    let system = rows::step::pack(counters, cells, good);
+    let single = rows::step::memory(0, counters, cells);
     let run = Run {
         plan,
         period,
@@ -320,10 +395,17 @@ fn stopped(
     Printed { answer, count, run }
 }
 
-// The lines of a part of a run, at most BLOCK of them, until one is refused. The frames go over rows, which are lent to every step.
-pub fn lines(run: Run, rest: &[u8], out: &mut [u8]) -> Printed
-    requires { ⌜ (accepted (run .plan) ≡ true) × (run .period ≡ periodOf (run .plan)) × (run .frame ≤ mostLines) × (length (now rest) ≤ blockLines * runLineSize (run .plan .sensors)) × (blockLines * printedSize (run .plan .actuators) ≤ length (now out)) ⌝ }
-    ensures { λ r. ⌜ (r ≡ linesAnswer run (now (rest .entry))) × (now (out .exit) ≡ linesPlace run (now (rest .entry)) (now (out .entry))) ⌝ }
+// The lines of a part of a run, at most BLOCK of them, until one is refused. The frames go over rows, which are lent to every step. Each node's part of
+// `faults` holds the byte that `held` has for it, before and after: only a bad node's part is touched, and only where its fill is another.
+pub fn lines(
+    run: Run,
+    rest: &[u8],
+    held: &mut [u8; System::NODES],
+    faults: &mut [u8],
+    out: &mut [u8],
+) -> Printed
+    requires { ⌜ (accepted (run .plan) ≡ true) × (run .period ≡ periodOf (run .plan)) × (run .frame ≤ mostLines) × (length (now rest) ≤ blockLines * runLineSize (run .plan .sensors)) × (length (now held) ≡ mostNodes) × (length (now faults) ≡ faultsSize (sizesOf (run .plan))) × Held (sizesOf (run .plan)) (now held) (now faults) × (blockLines * printedSize (run .plan .actuators) ≤ length (now out)) ⌝ }
+    ensures { λ r. ⌜ (r ≡ linesAnswer run (now (rest .entry))) × (length (now (held .exit)) ≡ mostNodes) × Held (sizesOf (run .plan)) (now (held .exit)) (now (faults .exit)) × (now (out .exit) ≡ linesPlace run (now (rest .entry)) (now (out .entry))) ⌝ }
 {
     let plan = run.plan;
     let period = run.period;
@@ -334,10 +416,12 @@ pub fn lines(run: Run, rest: &[u8], out: &mut [u8]) -> Printed
     let size = line_size(sensors);
     let width = printed_size(plan.actuators);
     let len = rest.len();
+    let s = plan::numbers_of(plan, period);
     let mut good = system.good;
     let mut counters = [0u16; rows::step::ROWS];
     let mut cells = [0u64; rows::step::WORDS];
-    rows::step::unpack(system, single, &mut counters, &mut cells);
+    rows::step::put_memory(single, 0, &mut counters, &mut cells);
+    rows::step::unpack(system, &mut counters, &mut cells);
     let mut patterns = [0u64; Plan::SENSORS];
     let mut k: usize = 0;
     let mut at: usize = 0;
@@ -362,17 +446,13 @@ pub fn lines(run: Run, rest: &[u8], out: &mut [u8]) -> Printed
                 first + k,
             );
         };
-        rows::step::compute(plan, &patterns[0..sensors], &mut counters, &mut cells);
+        faults::step::hold(s, mask, fill, held, faults);
         finish_line(
-            &plan.voted,
-            &plan.actuator_cell,
-            plan.nodes,
-            plan.frames,
-            plan.cells,
-            plan.actuators,
-            period,
+            plan,
+            s,
+            &patterns[0..sensors],
             mask,
-            fill,
+            faults,
             first + k,
             &mut counters,
             &mut cells,

@@ -31,10 +31,11 @@ use Rattle.memory.specs.Node.{poweredOn}
 use Rattle.system.specs.declared.System.{System}
 use Rattle.system.specs.System.{powerOn}
 use Rattle.system.specs.Fault.{bad}
-use Rattle.system.specs.Frame.{goodOf, goodAfter, systemAfter, countsOk}
+use Rattle.system.specs.Counts.{countAfter, goodAfter}
+use Rattle.system.specs.Frame.{goodOf, systemAfter, countsOk}
 use Rattle.lines.specs.declared.Run.{Run}
-use Rattle.lines.specs.Line.{maskIn, sensorsIn, runLineSize, runNumbers, printedSize, refusalLine}
-use Rattle.lines.specs.Listing.{mostLines, leading, isSome, faultBytes, systemNext, singleNext, frameLine, lineOf, numbersOf, systemAt, singleAt, printedAt, frames, printed, lineLeft, runListing, listing}
+use Rattle.lines.specs.Line.{maskIn, runLineSize, runNumbers, printedSize, refusalLine}
+use Rattle.lines.specs.Listing.{mostLines, leading, isSome, systemNext, singleNext, frameLine, lineOf, numbersOf, systemAt, singleAt, printedAt, frames, printed, lineLeft, runListing, listing}
 use Rattle.lines.specs.Listing as whole
 use Rattle.lines.specs.Run.{runAfter, nextNumbers}
 use Rattle.listing.specs.Answers.{startOf, unlessRefused, startAnswer, inTurn, inOrder, lineAnswer, taken, runTaken, nextAnswer, placeTaken, nextPlace, isDone}
@@ -190,13 +191,13 @@ counts-start p a =
     allBelow-all (λ i. leb (goodOf (powerOn p) i) (period p)) (p .nodes)
     (λ i l. le-leb (goodOf (powerOn p) i) (period p) (let e : goodOf (powerOn p) i ≡ period p = fill-in (λ k. period p) (p .nodes) (replicate mostNodes 0) i 0 l (omega (arith, s .nodes-high)) in omega (arith, e)))
 
-good-bound : (p : Plan) (sys : System) (sensors : List ℕ) (mask : ℕ) (faults : List ℕ) (i : ℕ) → goodAfter p sys sensors mask faults i ≤ period p
-unfolding goodAfter
-good-bound p sys sensors mask faults i = go (bad mask i)
+good-bound : (period mask : ℕ) (good : List ℕ) (i : ℕ) → goodAfter period mask good i ≤ period
+unfolding goodAfter countAfter
+good-bound period mask good i = go (bad mask i)
   where
-    go : (t : Bool) → cond t 0 (min (period p) (goodOf sys i + 1)) ≤ period p
+    go : (t : Bool) → cond t 0 (min period (getD good i 0 + 1)) ≤ period
     go true = omega arith
-    go false = min-le-left (period p) (goodOf sys i + 1)
+    go false = min-le-left period (getD good i 0 + 1)
 
 getD-past : (l : List ℕ) (i : ℕ) → length l ≤ i → getD l i 0 ≡ 0
 getD-past [] i m = refl
@@ -210,12 +211,12 @@ counts-next p sys l a =
     (λ i m. le-leb (goodOf (systemNext p sys l) i) (period p) (small i m))
   where
     f : ℕ → ℕ
-    f = goodAfter p sys (sensorsIn l) (maskIn l) (faultBytes p sys l)
+    f = goodAfter (period p) (maskIn l) (sys .good)
 
     small : (i : ℕ) → i < p .nodes → getD (fill f (p .nodes) (sys .good)) i 0 ≤ period p
     small i m =
         split (ltb i (length (sys .good)))
-        (λ t. rw (fill-in f (p .nodes) (sys .good) i 0 m (ltb-true i (length (sys .good)) t)) (good-bound p sys (sensorsIn l) (maskIn l) (faultBytes p sys l) i))
+        (λ t. rw (fill-in f (p .nodes) (sys .good) i 0 m (ltb-true i (length (sys .good)) t)) (good-bound (period p) (maskIn l) (sys .good) i))
         (λ t. rw (getD-past (fill f (p .nodes) (sys .good)) i (omega (arith, fill-length f (p .nodes) (sys .good), ltb-false i (length (sys .good)) t))) (omega arith))
 
 -- ---- the calls, one after another

@@ -125,7 +125,7 @@ pub fn next(run: Run, rest: &[u8], out: &mut [u8]) -> Printed
 pub fn refusal(answer: Answer, out: &mut [u8]) -> TextWritten
     ensures { λ r. ⌜ (r ≡ refusalWritten answer (length (now (out .entry)))) × (now (out .exit) ≡ refusalPlace answer (now (out .entry))) ⌝ }
 {
-    if out.len() < 13 {
+    if out.len() < lines::step::REFUSAL {
         return TextWritten {
             answer: Answer::WrongLength,
             count: 0,
@@ -140,6 +140,6 @@ pub fn refusal(answer: Answer, out: &mut [u8]) -> TextWritten
     lines::step::write_refusal(out, answer);
     TextWritten {
         answer: Answer::Done,
-        count: 13,
+        count: lines::step::REFUSAL,
     }
 }

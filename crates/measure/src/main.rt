@@ -1,6 +1,6 @@
 // Repeats one call on the plan in `plan.txt`, so that bench/ can count what it costs: the difference between two counts of repeats.
-// Standard input has a row: what (width 4) and how often (8). 1: plan_text::read. 2: recovery::check. 3: a node's compute, message and vote. 4: a frame of
-// the whole system. 5: the same with node 0 bad. It prints a sum of what the calls gave.
+// Standard input has a row: what (width 4) and how often (8). 1: plan_text::read. 2: recovery::check. 3: a node's compute, message and vote. 4: a
+// frame of the whole system, frame::frame. 5: the same with node 0 bad. It prints a sum of what the calls gave.
 use libc::STDIN_FILENO;
 use libc::STDOUT_FILENO;
 use memory::Memory;
@@ -75,32 +75,23 @@ fn before_last(m: Memory, frames: usize) -> Memory {
 
 // The mailbox stays, so each repeat computes in the last frame, where the scan of the tasks is longest.
 fn node_often(plan: Plan, times: u64, sensors: &mut [u64], bins: &mut [u8], out: &mut [u8]) -> u64 {
-    if recovery::accepted_period(plan) == 0 {
+    if sensors.len() == 0 {
         return 0;
     }
-    let nodes = plan.nodes;
+    let started = node::power_on(plan);
     let frames = plan.frames;
-    let cells = plan.cells;
-    let count = plan.sensors;
-    let size = memory::step::message_size(cells);
-    if sensors.len() != count {
-        return 0;
-    }
-    if bins.len() != nodes * size {
-        return 0;
-    }
-    if out.len() != size {
-        return 0;
-    }
-    let start = before_last(memory::step::power_on(plan), frames);
-    let mut m = memory::step::compute(plan, start, sensors);
-    fill_mailbox(plan, m, bins, size);
+    let start = before_last(started.memory, frames);
+    let first = node::compute(plan, start, sensors);
+    let mut m = first.memory;
+    fill_mailbox(plan, m, bins, out.len());
     let mut k: u64 = 0;
     while k < times {
         sensors[0] = k;
-        let next = memory::step::compute(plan, m, sensors);
-        message::step::message_with(&plan.voted, frames, cells, next, out);
-        m = vote::step::vote_with(&plan.voted, nodes, frames, cells, next, bins);
+        let computed = node::compute(plan, m, sensors);
+        let next = computed.memory;
+        node::message(plan, next, out);
+        let voted = node::vote(plan, next, bins);
+        m = voted.memory;
         k += 1;
     }
     m.cells[0] % 1000
@@ -114,22 +105,10 @@ fn frame_often(
     faults: &[u8],
     place: &mut [u64],
 ) -> u64 {
-    let period = recovery::accepted_period(plan);
-    if period == 0 {
+    if sensors.len() == 0 {
         return 0;
     }
-    let nodes = plan.nodes;
-    let cells = plan.cells;
-    let count = plan.sensors;
-    let actuators = plan.actuators;
-    let block = exchange::step::fault_size(nodes, cells, actuators);
-    if sensors.len() != count {
-        return 0;
-    }
-    if faults.len() != nodes * block {
-        return 0;
-    }
-    if place.len() != actuators {
+    if place.len() == 0 {
         return 0;
     }
     let started = System::power_on(plan);
@@ -137,7 +116,8 @@ fn frame_often(
     let mut k: u64 = 0;
     while k < times {
         sensors[0] = k;
-        system = phases::step::frame(plan, period, system, sensors, mask, faults, place);
+        let framed = frame::frame(plan, system, sensors, mask, faults, place);
+        system = framed.system;
         k += 1;
     }
     place[0] % 1000
@@ -162,13 +142,12 @@ fn step_often(plan: Plan, what: u64, times: u64) -> u64 {
         return 0;
     }
     let size = memory::step::message_size(cells);
-    let block = exchange::step::fault_size(nodes, cells, actuators);
-    let all = nodes * block;
-    let end = nodes * size;
+    let end = memory::step::bin_at(nodes, cells);
+    let all = faults::step::size(plan::numbers_of(plan, 0));
     let mut sensors = [0u64; Plan::SENSORS];
     let mut bins = [0u8; 1806];
     let mut out = [0u8; 258];
-    let faults = [0u8; 14896];
+    let faults = [0u8; faults::step::MOST];
     let mut place = [0u64; Plan::ACTUATORS];
     let readings = &mut sensors[0..count];
     if what == 3 {
@@ -211,7 +190,7 @@ fn main() {
     }
     let what = number(&row, 0, 4);
     let times = number(&row, 4, 12);
-    let mut text = [0u8; 35169];
+    let mut text = [0u8; plan_line::Line::TEXT];
     let file = os::open_read(b"plan.txt");
     if file < 0 {
         return;

@@ -8,25 +8,26 @@ use native.Mathlib.Omega.{arith}
 use native.Mathlib.Nat.{mul-le-mul-right, suc-mul}
 use native.Mathlib.Numerals.{add-one}
 use lib.Dec.{eqb}
-use lib.ListN.{length, getD, set, take, drop, replicate, length-append}
+use lib.ListN.{length, getD, set, take, drop, length-append}
 use lib.Seq.{take-at, take-all, length-take-le}
 use borrow.Author.Tests.{eqb-true, eqb-false, eq-eqb, ne-eqb}
 use Rattle.array.proofs.TestLaws.{split}
 use Rattle.array.specs.Index.{fill, joined}
-use Rattle.array.specs.Word.{be, bytes}
+use Rattle.array.specs.Word.{bytes}
 use Rattle.array.proofs.LoopLaws.{stored-next}
 use Rattle.array.proofs.PlacesLaws.{fill-out, fill-kept, joined-none, joined-more}
 use Rattle.array.proofs.WordLaws.{bytes-length}
 use Rattle.plan.specs.declared.Plan.{Plan}
-use Rattle.plan.specs.Limits.{mostNodes, mostCells}
+use Rattle.plan.specs.Limits.{mostCells}
 use Rattle.plan.specs.Known.{taskAt, votedIn}
 use Rattle.plan.proofs.AcceptedLaws.{Shape}
 use Rattle.memory.specs.declared.Memory.{Memory}
-use Rattle.memory.specs.Size.{counterSize, patternSize, cellAt, mailboxSize}
+use Rattle.memory.specs.Size.{counterSize, patternSize, cellAt, binSize}
 use Rattle.task.specs.Task.{opValue, runTask, runTasks}
 use Rattle.ballot.specs.Majority.{majority, orOwn}
-use Rattle.memory.specs.Node.{computed, before, sentCell, messageOf, counterIn, cellIn, votedCounter, votedCell, voted, setpoint}
-use Rattle.ballot.proofs.ScanLaws.{majority-read}
+use Rattle.ballot.specs.Code.{packed, Told}
+use Rattle.memory.specs.Node.{computed, before, sentCell, messageOf, counterFrom, cellFrom, counterIn, cellIn, votedCounter, votedCell, voted, setpoint}
+use Rattle.ballot.proofs.ToldLaws.{told-majority}
 use Rattle.task.proofs.TaskLaws.{runTask-elsewhere}
 
 -- ---- the tasks of a frame
@@ -138,38 +139,36 @@ bin-ends {n} {len} j size l e =
     let h : suc j * size ≤ n * size = mul-le-mul-right size l in
     omega (arith, suc-mul j size)
 
-pub bins-fit : {size len : ℕ} (p : Plan) → size ≡ cellAt (p .cells) → len ≡ mailboxSize p → p .nodes * size ≤ len
-bins-fit p e l = rw (e, l) (omega arith)
-
 -- ---- the vote
 
 -- what cell c becomes where the frame voted in is g
 unfoldable pub cellAfter : Plan → List ℕ → List ℕ → ℕ → ℕ → ℕ
 cellAfter p cells box g c =
-    cond (votedIn p g c) (Option·getD (majority (cellIn p box c) (p .nodes) (p .nodes)) (getD cells c 0)) (getD cells c 0)
+    cond (votedIn p g c) (Option·getD (majority (cellIn p box c) (p .nodes)) (getD cells c 0)) (getD cells c 0)
 
-module _ (p : Plan) (box : List ℕ) (few : p .nodes ≤ mostNodes) {size : ℕ} (e : size ≡ cellAt (p .cells)) where
+-- the values read are what the bins say
+module _ (p : Plan) (box : List ℕ) where
   pub counter-voted :
-      (m : Memory) {r : ℕ} {o : Option ℕ} (bins : List ℕ) →
-      bins ≡ fill (λ j. be counterSize box (j * size)) (p .nodes) (replicate mostNodes 0) →
-      o ≡ majority (λ j. getD bins j 0) (p .nodes) (p .nodes) →
+      (m : Memory) {r : ℕ} {o : Option ℕ} (values : List ℕ) →
+      Told (λ j. counterFrom box (j * binSize p)) (p .nodes) values →
+      o ≡ majority (packed values (p .nodes)) (p .nodes) →
       r ≡ orOwn (p .frames) (m .counter) o →
       r ≡ votedCounter p m box
   unfolding votedCounter counterIn
-  counter-voted m bins b h k = k ∙ rw (h, majority-read _ (p .nodes) bins few b, e)
+  counter-voted m values t h k = k ∙ rw (h, told-majority _ (p .nodes) values t)
 
   pub cell-voted :
-      {now : List ℕ} {r : ℕ} {o : Option ℕ} (cells : List ℕ) (g c : ℕ) (bins : List ℕ) →
+      {now : List ℕ} {r : ℕ} {o : Option ℕ} (cells : List ℕ) (g c : ℕ) (values : List ℕ) →
       now ≡ fill (cellAfter p cells box g) c cells →
       getD (p .voted) (mostCells * g + c) false ≡ true →
-      bins ≡ fill (λ j. be patternSize box (j * size + cellAt c)) (p .nodes) (replicate mostNodes 0) →
-      o ≡ majority (λ j. getD bins j 0) (p .nodes) (p .nodes) →
+      Told (λ j. cellFrom box c (j * binSize p)) (p .nodes) values →
+      o ≡ majority (packed values (p .nodes)) (p .nodes) →
       r ≡ Option·getD o (getD now c 0) →
       set now c r ≡ fill (cellAfter p cells box g) (c + 1) cells
   unfolding cellAfter cellIn votedIn
-  cell-voted cells g c bins n v b h k =
+  cell-voted cells g c values n v t h k =
       let f : ℕ → ℕ = cellAfter p cells box g in
-      stored-next f c cells n (k ∙ rw (v, h, majority-read _ (p .nodes) bins few b, e, n, fill-out f c cells c 0 (omega arith)))
+      stored-next f c cells n (k ∙ rw (v, h, told-majority _ (p .nodes) values t, n, fill-out f c cells c 0 (omega arith)))
 
 pub cell-kept :
     {now : List ℕ} (p : Plan) (cells box : List ℕ) (g c : ℕ) →

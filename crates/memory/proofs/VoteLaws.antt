@@ -3,6 +3,7 @@ use mathlib.Core.Path.{_≡_, sym, ap, _∙_}
 use mathlib.Core.Bool.{Bool, true, false}
 use mathlib.Core.List.{List, []}
 use mathlib.Core.Logic.{_⊎_, inl, inr, ⊎-elim}
+use mathlib.Core.Option.{some}
 use Prim.Native.Nat.{ℕ, _+_, _-_, _*_, _%_, _≤_, _<_}
 use native.Mathlib.Omega.{arith}
 use native.Mathlib.Nat.{mod-eq-of-lt, mod-lt, mod-add-mod, add-mod-right}
@@ -19,11 +20,11 @@ use Rattle.plan.proofs.KnownLaws.{voted-not, voted-past}
 use Rattle.memory.specs.declared.Memory.{Memory}
 use Rattle.ballot.specs.Majority.{holders, orOwn}
 use Rattle.memory.specs.Size.{binSize}
-use Rattle.memory.specs.Node.{computed, before, messageOf, counterIn, cellIn, votedCounter, votedCell, voted}
+use Rattle.memory.specs.Node.{computed, before, messageOf, binOf, counterIn, cellIn, votedCounter, votedCell, voted}
 use Rattle.ballot.proofs.MajorityLaws.{holders-least, majority-of-most}
 use Rattle.task.proofs.TaskLaws.{Agree, Bounded}
 use Rattle.memory.proofs.NodeLaws.{memory-same, computed-small, computed-length, computed-agree}
-use Rattle.memory.proofs.MessageLaws.{sentCell-voted, counterIn-message, cellIn-message}
+use Rattle.memory.proofs.MessageLaws.{sentCell-voted, counterFrom-message, cellFrom-message, counterIn-bin, cellIn-bin}
 
 -- ---- the frame before a counter
 
@@ -56,7 +57,7 @@ module _ (p : Plan) (m : Memory) (box : List ℕ) where
   -- the counter that more than half of the bins hold
   pub vote-counter : (v : ℕ) → v < p .frames → p .nodes < 2 * holders (counterIn p box) (p .nodes) v → voted p m box .counter ≡ v
   unfolding voted votedCounter orOwn
-  vote-counter v l h = rw (majority-of-most (counterIn p box) (p .nodes) (p .nodes) v (omega arith) h, lt-ltb v (p .frames) l)
+  vote-counter v l h = rw (majority-of-most (counterIn p box) (p .nodes) v h, lt-ltb v (p .frames) l)
 
   module _ (size : p .cells ≤ length (m .cells)) (g : ℕ) (frame : before p (voted p m box .counter) ≡ g) where
     vote-cell : (c : ℕ) → c < p .cells → getD (voted p m box .cells) c 0 ≡ votedCell p m box g c
@@ -71,7 +72,7 @@ module _ (p : Plan) (m : Memory) (box : List ℕ) where
         p .nodes < 2 * holders (cellIn p box c) (p .nodes) v →
         getD (voted p m box .cells) c 0 ≡ v
     unfolding votedCell
-    vote-taken c v l t h = vote-cell c l ∙ rw (t, majority-of-most (cellIn p box c) (p .nodes) (p .nodes) v (omega arith) h)
+    vote-taken c v l t h = vote-cell c l ∙ rw (t, majority-of-most (cellIn p box c) (p .nodes) v h)
 
     -- a cell that is not voted stays
     pub vote-kept : (c : ℕ) → votedIn p g c ≡ false → getD (voted p m box .cells) c 0 ≡ getD (m .cells) c 0
@@ -79,7 +80,7 @@ module _ (p : Plan) (m : Memory) (box : List ℕ) where
     vote-kept c t =
         split (ltb c (p .cells)) (λ l. vote-cell c (ltb-true _ _ l) ∙ rw t) (λ l. vote-past c (ltb-false _ _ l))
 
--- ---- a mailbox in which more than half of the bins are the message of one memory s
+-- ---- a mailbox in which more than half of the bins are made of the message of one memory s
 
 pub record MostHold (p : Plan) (box : List ℕ) (s : Memory) : Type 0 where
   pub counter : p .nodes < 2 * holders (counterIn p box) (p .nodes) (s .counter)
@@ -87,25 +88,32 @@ pub record MostHold (p : Plan) (box : List ℕ) (s : Memory) : Type 0 where
       (c : ℕ) → c < p .cells → votedIn p (before p (s .counter)) c ≡ true →
       p .nodes < 2 * holders (cellIn p box c) (p .nodes) (getD (s .cells) c 0)
 
-pub most-of-messages :
-    (p : Plan) → Shape p → (s : Memory) → s .counter < p .frames → Bounded (s .cells) →
-    (f : ℕ → List ℕ) → ((j : ℕ) → length (f j) ≡ binSize p) →
-    (work : ℕ → Bool) → p .nodes < 2 * howMany work (p .nodes) →
-    ((j : ℕ) → j < p .nodes → work j ≡ true → f j ≡ messageOf p s) →
-    MostHold p (joined f (p .nodes)) s
-most-of-messages p shape s l bs f sizes work half sends =
-    record {
-      counter = omega (
-        arith,
-        holders-least work (counterIn p (joined f (p .nodes))) (p .nodes) (s .counter)
-            (λ j jl w. counterIn-message p f (p .nodes) sizes j jl s (sends j jl w) (omega (arith, shape .frames-le))),
-      );
-      cell = λ c cl v. omega (
-        arith,
-        holders-least work (cellIn p (joined f (p .nodes)) c) (p .nodes) (getD (s .cells) c 0)
-            (λ j jl w. cellIn-message p f (p .nodes) sizes j jl s (sends j jl w) c cl (bs c) ∙ sentCell-voted p s c v),
-      );
-    }
+module _
+    (p : Plan) (shape : Shape p) (s : Memory) (small : s .counter < p .frames) (bounded : Bounded (s .cells))
+    (f : ℕ → List ℕ) (sizes : (j : ℕ) → length (f j) ≡ binSize p)
+    (work : ℕ → Bool) (half : p .nodes < 2 * howMany work (p .nodes))
+    (sends : (j : ℕ) → j < p .nodes → work j ≡ true → f j ≡ binOf (messageOf p s))
+  where
+    abbrev box : List ℕ
+    box = joined f (p .nodes)
+
+    works-counter : (j : ℕ) → j < p .nodes → work j ≡ true → counterIn p box j ≡ some (s .counter)
+    works-counter j l w =
+        counterIn-bin p f (p .nodes) sizes j l ∙ rw (sends j l w) (counterFrom-message p s (omega (arith, shape .frames-le)))
+
+    works-cell :
+        (c : ℕ) → c < p .cells → votedIn p (before p (s .counter)) c ≡ true →
+        (j : ℕ) → j < p .nodes → work j ≡ true → cellIn p box c j ≡ some (getD (s .cells) c 0)
+    works-cell c cl v j l w =
+        cellIn-bin p f (p .nodes) sizes j l c cl
+        ∙ rw (sends j l w, cellFrom-message p s c cl (bounded c), sentCell-voted p s c v)
+
+    pub most-of-messages : MostHold p (joined f (p .nodes)) s
+    most-of-messages =
+        record {
+          counter = omega (arith, half, holders-least work (counterIn p box) (p .nodes) (s .counter) works-counter);
+          cell = λ c cl v. omega (arith, half, holders-least work (cellIn p box c) (p .nodes) (getD (s .cells) c 0) (works-cell c cl v));
+        }
 
 module _ (p : Plan) (box : List ℕ) (s : Memory) (most : MostHold p box s) (l : s .counter < p .frames) where
   -- a memory m votes on it

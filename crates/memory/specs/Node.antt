@@ -1,7 +1,7 @@
 -- Document 01, 'Memory and frame': one node's memory through power-on, compute, broadcast, vote and sync.
 use mathlib.Core.Bool.{cond}
 use mathlib.Core.List.{List, _++_}
-use mathlib.Core.Option.{Option·getD}
+use mathlib.Core.Option.{Option, some, Option·getD}
 use Prim.Native.Nat.{ℕ, _+_, _-_, _%_}
 use lib.ListN.{getD, replicate}
 use Rattle.array.specs.Index.{fill, joined}
@@ -41,21 +41,32 @@ sentCell p m c = cond (votedIn p (before p (m .counter)) c) (getD (m .cells) c 0
 unfoldable pub messageOf : Plan → Memory → List ℕ
 messageOf p m = bytes counterSize (m .counter) ++ joined (λ c. bytes patternSize (sentCell p m c)) (p .cells)
 
--- what bin j of a mailbox says of the counter, and of cell c
-unfoldable pub counterIn : Plan → List ℕ → ℕ → ℕ
-counterIn p box j = be counterSize box (binAt p j)
+-- what a message becomes in a bin
+unfoldable pub binOf : List ℕ → List ℕ
+binOf message = message
 
-unfoldable pub cellIn : Plan → List ℕ → ℕ → ℕ → ℕ
-cellIn p box c j = be patternSize box (binAt p j + cellAt c)
+-- what the bin that starts at a place of some bytes says of the counter, and of cell c
+unfoldable pub counterFrom : List ℕ → ℕ → Option ℕ
+counterFrom s at = some (be counterSize s at)
+
+unfoldable pub cellFrom : List ℕ → ℕ → ℕ → Option ℕ
+cellFrom s c at = some (be patternSize s (at + cellAt c))
+
+-- what bin j of a mailbox says
+unfoldable pub counterIn : Plan → List ℕ → ℕ → Option ℕ
+counterIn p box j = counterFrom box (binAt p j)
+
+unfoldable pub cellIn : Plan → List ℕ → ℕ → ℕ → Option ℕ
+cellIn p box c j = cellFrom box c (binAt p j)
 
 unfoldable pub votedCounter : Plan → Memory → List ℕ → ℕ
-votedCounter p m box = orOwn (p .frames) (m .counter) (majority (counterIn p box) (p .nodes) (p .nodes))
+votedCounter p m box = orOwn (p .frames) (m .counter) (majority (counterIn p box) (p .nodes))
 
 -- "Each cell voted in g' takes its voted value, or stays as it is if there is none."
 unfoldable pub votedCell : Plan → Memory → List ℕ → ℕ → ℕ → ℕ
 votedCell p m box g c =
     cond (votedIn p g c)
-    (Option·getD (majority (cellIn p box c) (p .nodes) (p .nodes)) (getD (m .cells) c 0))
+    (Option·getD (majority (cellIn p box c) (p .nodes)) (getD (m .cells) c 0))
     (getD (m .cells) c 0)
 
 -- "Let g' be the frame before the resulting counter."

@@ -16,8 +16,12 @@ cellAt c = counterSize + patternSize * c
 abbrev pub messageSize : Plan → ℕ
 messageSize p = cellAt (p .cells)
 
+-- a bin, of a plan with so many cells
+abbrev pub binBytes : ℕ → ℕ
+binBytes cells = cellAt cells
+
 abbrev pub binSize : Plan → ℕ
-binSize p = messageSize p
+binSize p = binBytes (p .cells)
 
 -- where bin j starts in a mailbox
 abbrev pub binAt : Plan → ℕ → ℕ

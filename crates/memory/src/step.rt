@@ -1,12 +1,12 @@
 // The steps of a node, for callers that know the plan to be accepted and the lengths to be right.
 ghost use mathlib.Core.Path.{_≡_};
 ghost use mathlib.Core.Bool.{true};
-ghost use Prim.Native.Nat.{ℕ, _+_, _-_, _%_, _<_, _≤_};
+ghost use Prim.Native.Nat.{ℕ, _+_, _-_, _*_, _%_, _<_, _≤_};
 ghost use lib.ListN.{length, getD};
 ghost use Rattle.array.specs.Index.{fill};
-ghost use Rattle.plan.specs.Limits.{mostCells, mostActuators};
+ghost use Rattle.plan.specs.Limits.{mostNodes, mostCells, mostActuators};
 ghost use Rattle.plan.specs.Accepted.{accepted};
-ghost use Rattle.memory.specs.Size.{cellAt};
+ghost use Rattle.memory.specs.Size.{cellAt, binBytes};
 ghost use Rattle.memory.specs.Node.{poweredOn, computed, setpoint};
 use super::Memory;
 use plan::Plan;
@@ -48,11 +48,39 @@ pub fn compute(plan: Plan, memory: Memory, sensors: &[u64]) -> Memory
     }
 }
 
+// The bytes of a counter and of a pattern, in messages, bins and fault bytes.
+pub const COUNTER: usize = 2;
+
+pub const PATTERN: usize = 8;
+
+// Where a cell stands in a message.
+pub fn cell_at(c: usize) -> usize
+    requires { ⌜ c ≤ mostCells ⌝ }
+    ensures { λ r. ⌜ r ≡ cellAt c ⌝ }
+{
+    COUNTER + PATTERN * c
+}
+
 pub fn message_size(cells: usize) -> usize
     requires { ⌜ cells ≤ mostCells ⌝ }
     ensures { λ r. ⌜ r ≡ cellAt cells ⌝ }
 {
-    2 + 8 * cells
+    cell_at(cells)
+}
+
+// A bin, and where bin j starts in a mailbox.
+pub fn bin_size(cells: usize) -> usize
+    requires { ⌜ cells ≤ mostCells ⌝ }
+    ensures { λ r. ⌜ r ≡ binBytes cells ⌝ }
+{
+    message_size(cells)
+}
+
+pub fn bin_at(j: usize, cells: usize) -> usize
+    requires { ⌜ (j ≤ mostNodes) × (cells ≤ mostCells) ⌝ }
+    ensures { λ r. ⌜ r ≡ j * binBytes cells ⌝ }
+{
+    j * bin_size(cells)
 }
 
 // The frame before a counter.

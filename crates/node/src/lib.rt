@@ -1,4 +1,4 @@
-// One node: power-on, compute, message, vote, setpoints. Each call tests the plan and the lengths; the steps under them are those of `memory`, `message` and `vote`.
+// One node: power-on, compute, message, vote, setpoints. Each call tests the plan and the lengths; the steps under them are those of `memory` and `mailbox`.
 ghost use mathlib.Core.Path.{_≡_};
 ghost use lib.ListN.{length};
 ghost use Rattle.memory.specs.Size.{messageSize};
@@ -62,7 +62,7 @@ pub fn message(plan: Plan, memory: Memory, out: &mut [u8]) -> Answer
     if out.len() != memory::step::message_size(cells) {
         return Answer::WrongLength;
     }
-    message::step::message(plan, memory, out);
+    mailbox::step::message(plan, memory, out);
     Answer::Done
 }
 
@@ -77,13 +77,13 @@ pub fn vote(plan: Plan, memory: Memory, mailbox: &[u8]) -> Outcome
     }
     let nodes = plan.nodes;
     let cells = plan.cells;
-    if mailbox.len() != nodes * memory::step::message_size(cells) {
+    if mailbox.len() != memory::step::bin_at(nodes, cells) {
         return Outcome {
             answer: Answer::WrongLength,
             memory,
         };
     }
-    let next = vote::step::vote(plan, memory, mailbox);
+    let next = mailbox::step::vote(plan, memory, mailbox);
     Outcome {
         answer: Answer::Done,
         memory: next,

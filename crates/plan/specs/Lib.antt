@@ -1,3 +1,4 @@
 pub mod Limits
 pub mod Known
+pub mod Sizes
 pub mod Accepted

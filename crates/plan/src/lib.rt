@@ -1,6 +1,7 @@
 // The plan record, and which records are of form. The recovery period is in `recovery`.
 ghost use mathlib.Core.Path.{_≡_};
 ghost use Rattle.plan.specs.Accepted.{wellFormed};
+ghost use Rattle.plan.specs.Sizes.{numbersOf};
 use pattern::WindLaw;
 
 pub mod entries;
@@ -53,6 +54,29 @@ impl Plan {
     pub const TASKS: usize = 64;
 
     pub const VOTES: usize = Plan::FRAMES * Plan::CELLS;
+}
+
+// The numbers of a plan, and its recovery period.
+pub struct Sizes {
+    pub nodes: usize,
+    pub frames: usize,
+    pub cells: usize,
+    pub sensors: usize,
+    pub actuators: usize,
+    pub period: usize,
+}
+
+pub fn numbers_of(p: Plan, period: usize) -> Sizes
+    ensures { λ r. ⌜ r ≡ numbersOf p period ⌝ }
+{
+    Sizes {
+        nodes: p.nodes,
+        frames: p.frames,
+        cells: p.cells,
+        sensors: p.sensors,
+        actuators: p.actuators,
+        period,
+    }
 }
 
 pub fn well_formed(p: Plan) -> bool

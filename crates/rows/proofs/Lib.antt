@@ -1,3 +1,1 @@
 pub mod RowLaws
-pub mod FrameLaws
-pub mod VoteLaws

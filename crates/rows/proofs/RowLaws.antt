@@ -1,30 +1,32 @@
--- Laws of rows: a row by its words, one row stored, and a loop over rows.
+-- Laws of rows: a row by its words, one row stored, a loop over rows, a record in rows, and rows that are the same.
 use mathlib.Core.Path.{_≡_, refl, sym, ap, _∙_, subst}
-use mathlib.Core.Bool.{Bool, true, false, not, _&&_}
+use mathlib.Core.Bool.{Bool, true, false, _&&_}
 use mathlib.Core.List.{List, _++_}
-use Prim.Native.Nat.{ℕ, suc, _+_, _-_, _*_, _%_, _≤_, _<_, min}
+use Prim.Native.Nat.{ℕ, zero, suc, _+_, _-_, _*_, _%_, _≤_, _<_, min}
 use native.Mathlib.Omega.{arith}
 use native.Mathlib.Nat.{not-suc-le-zero}
 use native.Mathlib.Numerals.{add-one}
 use lib.Dec.{eqb, ltb}
 use lib.ListN.{length, getD, set, take, drop, length-take, length-drop, replicate, length-replicate}
 use lib.Seq.{ext-getD, getD-take, getD-drop, getD-set-same, getD-set-other, length-take-le, take-at, drop-at}
-use borrow.Author.Tests.{eqb-true, eqb-false, ltb-true, ltb-false}
+use borrow.Author.Tests.{eq-eqb, ne-eqb, eqb-true, eqb-false, ltb-true, ltb-false}
 use borrow.Rule.Slice.PartMut.{putMid, same-len-mid}
-use Rattle.array.specs.Index.{fill}
-use Rattle.array.specs.Bit.{bit}
-use Rattle.array.proofs.TestLaws.{split}
+use Rattle.array.specs.Index.{howMany, allBelow, fill}
+use Rattle.array.specs.Place.{placed}
+use Rattle.array.proofs.TestLaws.{split, and-false-right, and-both}
+use Rattle.array.proofs.IndexLaws.{allBelow-more, allBelow-fails}
+use Rattle.array.proofs.LoopLaws.{all-passed}
 use Rattle.array.proofs.PlacesLaws.{fill-length, fill-in, fill-same}
+use Rattle.array.proofs.PlacedLaws.{placed-before, placed-after, part-back}
 use Rattle.plan.specs.declared.Plan.{Plan}
 use Rattle.plan.specs.Limits.{mostNodes, mostCells}
-use Rattle.memory.specs.declared.Memory.{Memory}
 use Rattle.task.specs.Task.{runTasks}
+use Rattle.memory.specs.declared.Memory.{Memory}
 use Rattle.memory.specs.Node.{zeroMemory, computed}
 use Rattle.memory.proofs.StepLaws.{computed-is}
 use Rattle.system.specs.declared.System.{System}
-use Rattle.array.specs.Place.{placed}
-use Rattle.array.proofs.PlacedLaws.{placed-before, placed-after, part-back}
-use Rattle.rows.specs.Rows.{rowOf, memoryIn, Rows, Stored, Through, faultCounter, faultWord, spoiled}
+use Rattle.system.specs.Frame.{memoryOf, sameMemory}
+use Rattle.rows.specs.Rows.{rowOf, memoryIn, Rows, Stored, Through, sameRow}
 
 -- ---- a row by its words
 
@@ -74,10 +76,6 @@ module _ (cells : List ℕ) (r c : ℕ) {a : ℕ} (at : a ≡ mostCells * r) (l 
 -- two memories of rows
 pub memory-eq : {a b : ℕ} {s t : List ℕ} → a ≡ b → s ≡ t → _≡_ {A = Memory} (record { counter = a; cells = s }) (record { counter = b; cells = t })
 memory-eq e f = λ i. record { counter = e i; cells = f i }
-
--- a node is working
-pub works-if : (mask period x : ℕ) (i : ℕ) {b f t : Bool} → b ≡ bit mask i → f ≡ eqb x period → (not b && f) ≡ t → (not (bit mask i) && eqb x period) ≡ t
-works-if mask period x i e g h = rw (← e, ← g) h
 
 -- ---- one row lent and back
 
@@ -141,6 +139,14 @@ module _ (f : ℕ → Memory → Memory) (counters₀ cells₀ : List ℕ) where
     pub through-all : {n : ℕ} → k ≡ n → Through n f counters₀ cells₀ counters cells
     through-all e = rw e at h
 
+-- two passes in a row
+pub through-then :
+    {n : ℕ} {f g : ℕ → Memory → Memory} {counters cells counters₁ cells₁ counters₂ cells₂ : List ℕ} →
+    Through n f counters cells counters₁ cells₁ →
+    Through n g counters₁ cells₁ counters₂ cells₂ →
+    Through n (λ q m. g q (f q m)) counters cells counters₂ cells₂
+through-then {n} {f} {g} s t = record { done = λ q l. t .done q l ∙ ap (g q) (s .done q l); left = λ q l. t .left q l ∙ s .left q l }
+
 -- ---- one row stored: its counter, and its part
 
 pub stored-row :
@@ -198,21 +204,20 @@ module _ (memories : List Memory) (counters₀ cells₀ : List ℕ) where
       }
 
 pub rows-unpacked :
-    (sys : System) {counters₀ cells₀ counters cells : List ℕ} {n : ℕ} {single : Memory} →
+    (sys : System) {counters₀ cells₀ counters cells : List ℕ} {n : ℕ} →
     length (sys .memories) ≡ mostNodes →
     Unpacked (sys .memories) counters₀ cells₀ n counters cells →
     n ≡ mostNodes →
-    memoryIn counters₀ cells₀ 0 ≡ single →
-    Rows sys single counters cells (sys .good)
-rows-unpacked sys l h z e = record { single-is = h .first ∙ e; node-is = λ j k. h .nodes j (omega arith); good-is = refl; count = l }
+    Rows sys counters cells (sys .good) × (memoryIn counters cells 0 ≡ memoryIn counters₀ cells₀ 0)
+rows-unpacked sys l h z = (record { node-is = λ j k. h .nodes j (omega arith); good-is = refl; count = l }, h .first)
 
 pub packed-is :
     (counters cells good : List ℕ) (start memories : List Memory) →
     length start ≡ mostNodes →
     memories ≡ fill (λ j. memoryIn counters cells (j + 1)) mostNodes start →
-    (sys : System) (single : Memory) → Rows sys single counters cells good →
+    (sys : System) → Rows sys counters cells good →
     _≡_ {A = System} (record { memories = memories; good = good }) sys
-packed-is counters cells good start memories n e sys single h =
+packed-is counters cells good start memories n e sys h =
     let long : length memories ≡ mostNodes = ap length e ∙ fill-length (λ j. memoryIn counters cells (j + 1)) mostNodes start ∙ n in
     let same : memories ≡ sys .memories =
     ext-getD zeroMemory memories (sys .memories) (long ∙ sym (h .count))
@@ -222,52 +227,6 @@ packed-is counters cells good start memories n e sys single h =
     ∙ ap (memoryIn counters cells) (add-one j)
     ∙ h .node-is j (omega arith)) in
     λ i. record { memories = same i; good = h .good-is i }
-
--- ---- a bad node's row
-
-module _ (count mask x j : ℕ) where
-  pub spoiled-good : bit mask j ≡ false → (m : Memory) → spoiled count mask x (j + 1) m ≡ m
-  unfolding spoiled
-  spoiled-good t m = rw (add-one j, t)
-
-  spoiled-bad : bit mask j ≡ true → (m : Memory) → spoiled count mask x (j + 1) m ≡ record { counter = faultCounter x; cells = fill (λ c. faultWord x) count (m .cells) }
-  unfolding spoiled
-  spoiled-bad t m = rw (add-one j, t)
-
-  spoiled-size : (cells part : List ℕ) {a k : ℕ} → a ≡ mostCells * (j + 1) → k ≡ mostCells → mostCells * (j + 1) + mostCells ≤ length cells → part ≡ fill (λ c. faultWord x) count (take k (drop a cells)) → length part ≡ mostCells
-  spoiled-size cells part {a} {k} at size fits e = ap length e ∙ fill-length (λ c. faultWord x) count (take k (drop a cells)) ∙ length-take-le k (drop a cells) (rw length-drop (omega arith)) ∙ size
-
-  pub spoiled-long : (cells part : List ℕ) {a k : ℕ} → a ≡ mostCells * (j + 1) → k ≡ mostCells → mostCells * (j + 1) + mostCells ≤ length cells → part ≡ fill (λ c. faultWord x) count (take k (drop a cells)) → length (putMid a k cells part) ≡ length cells
-  spoiled-long cells part at size fits e = lent-length cells part (j + 1) at size fits (spoiled-size cells part at size fits e)
-
-  pub spoiled-stored :
-      (counters cells part : List ℕ) {a k : ℕ} →
-      a ≡ mostCells * (j + 1) →
-      k ≡ mostCells →
-      j + 1 < length counters →
-      mostCells * (j + 1) + mostCells ≤ length cells →
-      part ≡ fill (λ c. faultWord x) count (take k (drop a cells)) →
-      bit mask j ≡ true →
-      Stored counters cells (j + 1) (spoiled count mask x (j + 1) (memoryIn counters cells (j + 1))) (set counters (j + 1) (faultCounter x)) (putMid a k cells part)
-  unfolding rowOf
-  spoiled-stored counters cells part {a} {k} at size l fits e t =
-      let n : length part ≡ mostCells = spoiled-size cells part at size fits e in
-      let f : part ≡ fill (λ c. faultWord x) count (take mostCells (drop (mostCells * (j + 1)) cells)) = e ∙ rw (at, size) in
-      let s = stored-row counters cells part (j + 1) (faultCounter x) at size l fits n in
-      record { here = s .here ∙ memory-eq refl f ∙ sym (spoiled-bad t (memoryIn counters cells (j + 1))); others = s .others }
-
--- ---- what is put out in one column
-
-pub column-word :
-    (cells : List ℕ) (cell nodes : ℕ) (values : List ℕ) →
-    cell < mostCells →
-    nodes ≤ mostNodes →
-    values ≡ fill (λ j. getD cells (mostCells * (j + 1) + cell) 0) nodes (replicate mostNodes 0) →
-    (j : ℕ) → j < nodes → getD values j 0 ≡ getD (rowOf cells (suc j)) cell 0
-column-word cells cell nodes values l few e j h =
-    ap (λ (s : List ℕ). getD s j 0) e
-    ∙ fill-in (λ j. getD cells (mostCells * (j + 1) + cell) 0) nodes (replicate mostNodes 0) j 0 h (omega arith)
-    ∙ rw (add-one j) (sym (row-at cells (suc j) cell l))
 
 -- ---- a row that runs its tasks
 
@@ -295,3 +254,44 @@ computed-stored p sensors counters cells cells' r l e h =
       here = memory-eq (getD-set-same counters r _ 0 l) refl ∙ computed-is p sensors (memoryIn counters cells r) e;
       others = λ q ne. memory-eq (getD-set-other counters r q _ 0 ne) (h q ne);
     }
+
+-- ---- rows that are the same
+
+-- two memories by their counters and first cells
+abbrev same : ℕ → Memory → Memory → Bool
+same count m s = eqb (m .counter) (s .counter) && allBelow (λ c. eqb (getD (m .cells) c 0) (getD (s .cells) c 0)) count
+
+module _ (count : ℕ) (m s : Memory) where
+  pub same-counter : (m .counter ≡ s .counter → ⊥) → false ≡ same count m s
+  same-counter h = rw (ne-eqb (m .counter) (s .counter) h)
+
+  pub same-cell : (c : ℕ) → c < count → (getD (m .cells) c 0 ≡ getD (s .cells) c 0 → ⊥) → false ≡ same count m s
+  same-cell c l h = sym (and-false-right (eqb (m .counter) (s .counter)) (allBelow-fails (λ c. eqb (getD (m .cells) c 0) (getD (s .cells) c 0)) count c l (ne-eqb _ _ h)))
+
+  pub same-all : {c : ℕ} → m .counter ≡ s .counter → allBelow (λ c. eqb (getD (m .cells) c 0) (getD (s .cells) c 0)) c ≡ true → c ≡ count → true ≡ same count m s
+  same-all {c} e h k = sym (and-both (eq-eqb _ _ e) (all-passed _ h k))
+
+  pub same-more : (c : ℕ) → allBelow (λ c. eqb (getD (m .cells) c 0) (getD (s .cells) c 0)) c ≡ true → getD (m .cells) c 0 ≡ getD (s .cells) c 0 → allBelow (λ c. eqb (getD (m .cells) c 0) (getD (s .cells) c 0)) (c + 1) ≡ true
+  same-more c h e = allBelow-more (λ c. eqb (getD (m .cells) c 0) (getD (s .cells) c 0)) c h (eq-eqb _ _ e)
+
+howMany-same : (q r : ℕ → Bool) (n : ℕ) → ((i : ℕ) → i < n → q i ≡ r i) → howMany q n ≡ howMany r n
+unfolding howMany
+howMany-same q r zero e = refl
+howMany-same q r (suc n) e = rw (howMany-same q r n (λ i l. e i (omega arith)), e n (omega arith))
+
+same-is : (p : Plan) (a b c d : Memory) {count : ℕ} → count ≡ p .cells → a ≡ c → b ≡ d → same count a b ≡ sameMemory p c d
+unfolding sameMemory
+same-is p a b c d e f g = rw (e, f, g)
+
+-- the count over rows is the count over memories
+pub agreeing-is :
+    (p : Plan) (sys : System) (single : Memory) (counters cells good : List ℕ) {count : ℕ} (n : ℕ) →
+    Rows sys counters cells good →
+    memoryIn counters cells 0 ≡ single →
+    count ≡ p .cells →
+    n ≤ mostNodes →
+    howMany (λ j. sameRow count counters cells (j + 1)) n ≡ howMany (λ i. sameMemory p (memoryOf sys i) single) n
+unfolding sameRow
+agreeing-is p sys single counters cells good n h e k few =
+    howMany-same _ _ n
+    (λ j l. rw (add-one j) (same-is p (memoryIn counters cells (suc j)) (memoryIn counters cells 0) (memoryOf sys j) single k (h .node-is j (omega arith)) e))

@@ -1,2 +1,2 @@
-// A system in a run: one row of words for each memory, that every step is lent. The steps are in `step`.
+// A system on rows: one row of words for each memory, that every step is lent. The steps are in `step`.
 pub mod step;

@@ -15,9 +15,9 @@ use Rattle.text.specs.Meant.{opOf, taskOf, headerWith, initialWith, countWith, 
 use Rattle.text.specs.Refused.{lengthOk, isHeader, afterCells, taskInOrder, voteInOrder, actuatorInOrder, inOrder, taskZeros, inRange, rulesOf, formOrRules, lineRefusal, firstRefusal, isLast, endRefusal, periodRefusal, linesRefusal, textRefusal}
 use Rattle.plan_text.specs.Answers.{unlessRefused, readAnswer}
 use Rattle.task.specs.Task.{opValue, runTask, runTasks}
-use Rattle.ballot.specs.Majority.{holders, firstShared, majority, orOwn}
-use Rattle.memory.specs.Node.{computed, before, sentCell, messageOf, counterIn, cellIn, votedCounter, votedCell, voted}
-use Rattle.system.specs.Plane.{mostHeld, plane}
+use Rattle.ballot.specs.Majority.{holds, holders, shared, firstShared, majority, orOwn}
+use Rattle.ballot.specs.Plane.{backing, mostHeld, plane}
+use Rattle.memory.specs.Node.{computed, before, sentCell, messageOf, binOf, counterFrom, cellFrom, counterIn, cellIn, votedCounter, votedCell, voted}
 use Rattle.short_table.specs.ShortTable.{linesK, linesTake, planK, planTake, mailbox, countersVoted, cellsVoted, planeOf, late, ShortTable}
 
 pub short-table : ShortTable
@@ -28,7 +28,8 @@ unfolding linesK linesTake planK planTake mailbox countersVoted cellsVoted plane
     numbersAt lineAt isTask written opOf taskOf headerWith initialWith countWith tasksWith votedWith actuatorsWith withLine planTo planOf
     lengthOk isHeader afterCells taskInOrder voteInOrder actuatorInOrder inOrder taskZeros inRange rulesOf formOrRules lineRefusal firstRefusal
     isLast endRefusal periodRefusal linesRefusal textRefusal unlessRefused readAnswer
-    opValue runTask runTasks holders firstShared majority computed before sentCell messageOf counterIn cellIn orOwn votedCounter votedCell voted mostHeld plane
+    opValue runTask runTasks holds holders shared firstShared majority computed before sentCell messageOf binOf counterFrom cellFrom counterIn cellIn orOwn
+    votedCounter votedCell voted backing mostHeld plane
 short-table =
     record {
       row-1 = (refl, refl);

@@ -2,6 +2,7 @@
 use mathlib.Core.Path.{_≡_}
 use mathlib.Core.Bool.{Bool, true, false}
 use mathlib.Core.List.{List, [], _∷_, _++_}
+use mathlib.Core.Option.{Option, some}
 use Prim.Native.Nat.{ℕ, _*_}
 use lib.ListN.{length, getD, set, take, replicate}
 use Rattle.array.specs.Index.{joined}
@@ -14,11 +15,11 @@ use Rattle.plan.specs.Limits.{mostFrames, mostCells, mostTasks, mostActuators}
 use Rattle.plan.specs.Known.{unusedTask, votePlace, period}
 use Rattle.text.specs.Written.{written}
 use Rattle.plan_text.specs.Answers.{readAnswer}
+use Rattle.task.specs.Task.{opValue}
+use Rattle.ballot.specs.Plane.{plane}
 use Rattle.memory.specs.declared.Memory.{Memory}
 use Rattle.memory.specs.Size.{counterSize}
-use Rattle.task.specs.Task.{opValue}
-use Rattle.memory.specs.Node.{computed, messageOf, voted}
-use Rattle.system.specs.Plane.{plane}
+use Rattle.memory.specs.Node.{computed, messageOf, binOf, voted}
 
 -- ---- the plans: the numbers of their lines, and the records that these mean
 
@@ -106,9 +107,9 @@ four = planTake 4 (voteOf 0 0)
 abbrev pub memory : ℕ → ℕ → ℕ → Memory
 memory counter first second = record { counter = counter; cells = set (set (replicate mostCells 0) 0 first) 1 second }
 
--- the messages of all nodes: "its mailbox is these bins one after another, node 0 first"
+-- the messages of all nodes, in bins: "its mailbox is these bins one after another, node 0 first"
 unfoldable pub mailbox : Plan → (ℕ → Memory) → List ℕ
-mailbox p sender = joined (λ j. messageOf p (sender j)) (p .nodes)
+mailbox p sender = joined (λ j. binOf (messageOf p (sender j))) (p .nodes)
 
 -- a node of plan K after a vote on bins with these counters
 unfoldable pub countersVoted : Memory → List ℕ → Memory
@@ -119,8 +120,8 @@ unfoldable pub cellsVoted : Memory → List ℕ → Memory
 cellsVoted own cells = voted four own (mailbox four (λ j. memory 0 (getD cells j 0) 0))
 
 -- what the plane hands on of these values, one of each node
-unfoldable pub planeOf : List ℕ → ℕ
-planeOf values = plane (λ i. getD values i 0) (length values)
+unfoldable pub planeOf : List ℕ → Option ℕ
+planeOf values = plane (λ i. some (getD values i 0)) (length values)
 
 -- the patterns of 1, 2, 3, NaN, +0 and −0
 abbrev pub one : ℕ
@@ -167,9 +168,9 @@ pub record ShortTable : Type 0 where
   -- "n = 4, cell bins +0, +0, −0, −0: own kept." Whatever it is
   pub row-9 : (own : ℕ) → cellsVoted (memory 0 own 0) (plusZero ∷ plusZero ∷ minusZero ∷ minusZero ∷ []) ≡ memory 0 own 0
   -- "Plane 7, 8, 9: 7."
-  pub row-10 : planeOf (7 ∷ 8 ∷ 9 ∷ []) ≡ 7
+  pub row-10 : planeOf (7 ∷ 8 ∷ 9 ∷ []) ≡ some 7
   -- "Plane 4, 5, 5, 4, 6: 4."
-  pub row-11 : planeOf (4 ∷ 5 ∷ 5 ∷ 4 ∷ 6 ∷ []) ≡ 4
+  pub row-11 : planeOf (4 ∷ 5 ∷ 5 ∷ 4 ∷ 6 ∷ []) ≡ some 4
   -- "Limit from 1 to 2 of NaN: 1."
   pub row-12 : opValue (Limit 0 (valueOf one) (valueOf two)) 0 [] (nan ∷ []) ≡ one
   -- "Counter 65,535, F = 2: frame 1 is run, 0 is sent." The Sum was run and the Take was not; the first two bytes of the message are the counter

@@ -6,12 +6,10 @@ use mathlib.Core.Logic.{_⊎_, ⊎-elim}
 use Prim.Native.Nat.{ℕ, _%_, _<_}
 use native.Mathlib.Nat.{zero-mod, mod-lt}
 use lib.ListN.{length}
-use borrow.Author.Tests.{le-leb}
 use Rattle.array.proofs.TestLaws.{split, clash, and-left}
-use Rattle.array.proofs.IndexLaws.{allBelow-all}
 use Rattle.answer.specs.declared.Answer.{Answer}
 use Rattle.plan.specs.declared.Plan.{Plan}
-use Rattle.plan.specs.Known.{known}
+use Rattle.plan.specs.Known.{known, period}
 use Rattle.plan.specs.Accepted.{accepted}
 use Rattle.plan.proofs.AcceptedLaws.{shape-of-accepted}
 use Rattle.memory.specs.declared.Memory.{Memory}
@@ -20,8 +18,10 @@ use Rattle.memory.proofs.NodeLaws.{poweredOn-counter}
 use Rattle.system.specs.declared.System.{System}
 use Rattle.system.specs.System.{powerOn}
 use Rattle.system.specs.Fault.{bad}
-use Rattle.system.specs.Frame.{memoryOf, countsOk, inTurn, frameRuns, frameAnswer, framePlace, singlePlace}
+use Rattle.system.specs.Counts.{goodCount}
+use Rattle.system.specs.Frame.{memoryOf, goodOf, countsOk, inTurn, frameRuns, frameAnswer, framePlace, singlePlace}
 use Rattle.system.specs.Demand.{Call, callLengths, callAnswer, isFrame, next, answers, places, finally, singleNext, singlePlaces, singleFinally, callAnswers, masks, goodIn, MostGood, Premise, OnePlan, Demand3}
+use Rattle.system.proofs.CountLaws.{Counts, counts-start, counts-ok, counts-after}
 use Rattle.system.proofs.StateLaws.{State, state-start, state-whole, state-after, counter-after, place-after, Trusted, state-trusted}
 
 -- ---- one call
@@ -61,10 +61,6 @@ record Called (p : Plan) (sys : System) (s : Memory) (past : List ℕ) (c : Call
   place : framePlace (c .plan) sys (c .sensors) (c .mask) (c .faults) (c .place) ≡ singlePuts s c
   answer : frameAnswer (c .plan) sys (c .sensors) (c .mask) (c .faults) (c .place) .answer ≡ callAnswer c
 
-counts-ok : (p : Plan) (sys : System) (s : Memory) (past : List ℕ) → State p sys s past → countsOk p sys ≡ true
-unfolding countsOk
-counts-ok p sys s past st = allBelow-all _ (p .nodes) (λ i l. le-leb _ _ (st .node i l .most))
-
 call :
     (p : Plan) → accepted p ≡ true → (sys : System) (s : Memory) (past : List ℕ) (c : Call) →
     State p sys s past →
@@ -75,7 +71,7 @@ unfolding next singleNext frameAnswer framePlace
 call p accept sys s past c st plan most = split (isFrame c) frame refused
   where
     counts : accepted (c .plan) ≡ true → countsOk (c .plan) sys ≡ true
-    counts e = rw (accepted-is c plan e) (counts-ok p sys s past st)
+    counts e = rw (accepted-is c plan e) (counts-ok p sys past (st .counts))
 
     frame : isFrame c ≡ true → Called p sys s past c
     frame e =
@@ -142,6 +138,31 @@ pub demand3 : Demand3
 demand3 p accept cs one most =
     let r : Listed p (powerOn p) (poweredOn p) [] cs = from-start p accept cs one most in
     record { setpoints = r .setpoints; refusals = r .refusals; memories = state-whole p _ _ _ (r .state) }
+
+-- ---- the good counts after the list, whoever was good
+
+module _ (p : Plan) where
+  counts-next :
+      (c : Call) → (c .plan ≡ p) ⊎ (accepted (c .plan) ≡ false) → (sys : System) (past : List ℕ) →
+      Counts p sys past →
+      Counts p (next sys c) (since c past)
+  unfolding next frameAnswer
+  counts-next c plan sys past h =
+      let ok : accepted (c .plan) ≡ true → countsOk (c .plan) sys ≡ true = λ e. rw (accepted-is c plan e) (counts-ok p sys past h) in
+      split (isFrame c)
+      (λ e. rw (runs-frame sys c ok, e, frame-is c plan e) (counts-after p sys past h (c .sensors) (c .mask) (c .faults)))
+      (λ e. rw (runs-frame sys c ok, e) h)
+
+  counts-finally : (cs : List Call) → OnePlan p cs → (sys : System) (past : List ℕ) → Counts p sys past → Counts p (finally sys cs) (masks cs past)
+  unfolding OnePlan finally masks
+  counts-finally [] one sys past h = h
+  counts-finally (c ∷ cs) one sys past h = counts-finally cs (one .1) (next sys c) (since c past) (counts-next c (one .0) sys past h)
+
+  -- they are what the masks of its frames give
+  pub good-finally :
+      accepted p ≡ true → (cs : List Call) → OnePlan p cs →
+      (i : ℕ) → i < p .nodes → goodOf (finally (powerOn p) cs) i ≡ goodCount (period p) (masks cs []) i
+  good-finally accept cs one = counts-finally cs one (powerOn p) [] (counts-start p accept) .count
 
 -- ---- request 2026-12: a node that was good in the last frames, at least one, and bad in the one before
 

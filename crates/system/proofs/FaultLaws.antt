@@ -1,23 +1,44 @@
 -- Laws of the fault bytes: whatever they say, a bad node's memory keeps its length and what it held past C, and its messages have a bin's size.
+-- Every part of them lies in its node's part.
 use mathlib.Core.Path.{_≡_}
 use mathlib.Core.List.{List}
-use Prim.Native.Nat.{ℕ, _≤_}
+use Prim.Native.Nat.{ℕ, _+_, _*_, _≤_, _<_}
+use native.Mathlib.Nat.{le-refl}
+use native.Mathlib.Omega.{arith}
 use lib.ListN.{length, getD}
 use Rattle.array.proofs.PlacesLaws.{fill-length, fill-out, from-length}
-use Rattle.plan.specs.declared.Plan.{Plan}
+use Rattle.plan.specs.declared.Sizes.{Sizes}
 use Rattle.memory.specs.declared.Memory.{Memory}
-use Rattle.memory.specs.Size.{binSize}
-use Rattle.system.specs.Fault.{faultMessageAt, faultMemory, faultMessage}
+use Rattle.memory.specs.Size.{patternSize, cellAt, binBytes}
+use Rattle.memory.proofs.StepLaws.{bin-ends}
+use Rattle.system.specs.Fault.{setpointSize, faultSize, faultAt, faultMessageAt, faultSetpointAt, faultMemory, faultMessage}
 
-module _ (p : Plan) (faults : List ℕ) (i : ℕ) where
-  pub faultMemory-length : (m : Memory) → length (faultMemory p faults i m .cells) ≡ length (m .cells)
+module _ (s : Sizes) (faults : List ℕ) (i : ℕ) where
+  pub faultMemory-length : (m : Memory) → length (faultMemory s faults i m .cells) ≡ length (m .cells)
   unfolding faultMemory
-  faultMemory-length m = fill-length _ (p .cells) (m .cells)
+  faultMemory-length m = fill-length _ (s .cells) (m .cells)
 
-  pub faultMemory-past : (m : Memory) (c : ℕ) → p .cells ≤ c → getD (faultMemory p faults i m .cells) c 0 ≡ getD (m .cells) c 0
+  pub faultMemory-past : (m : Memory) (c : ℕ) → s .cells ≤ c → getD (faultMemory s faults i m .cells) c 0 ≡ getD (m .cells) c 0
   unfolding faultMemory
-  faultMemory-past m c l = fill-out _ (p .cells) (m .cells) c 0 l
+  faultMemory-past m c l = fill-out _ (s .cells) (m .cells) c 0 l
 
-  pub faultMessage-length : (receiver : ℕ) → length (faultMessage p faults i receiver) ≡ binSize p
+  pub faultMessage-length : (receiver : ℕ) → length (faultMessage s faults i receiver) ≡ binBytes (s .cells)
   unfolding faultMessage
-  faultMessage-length receiver = from-length 0 faults (faultMessageAt p i receiver) (binSize p)
+  faultMessage-length receiver = from-length 0 faults (faultMessageAt s i receiver) (binBytes (s .cells))
+
+-- ---- rooms
+
+-- the part of node i, of n
+pub part-room : (s : Sizes) (i n : ℕ) → i < n → faultAt s i + faultSize s ≤ n * faultSize s
+part-room s i n l = bin-ends i (faultSize s) l (le-refl _)
+
+-- in the part of node j: cell c of its memory, its message to node i, its setpoint for actuator a
+module _ (s : Sizes) (j : ℕ) where
+  pub memory-room : (c : ℕ) → c < s .cells → faultAt s j + cellAt c + patternSize ≤ faultAt s j + faultSize s
+  memory-room c l = omega arith
+
+  pub message-room : (i : ℕ) → i < s .nodes → faultMessageAt s j i + binBytes (s .cells) ≤ faultAt s j + faultSize s
+  message-room i l = omega (arith, bin-ends i (binBytes (s .cells)) l (le-refl (s .nodes * binBytes (s .cells))))
+
+  pub setpoint-room : (a : ℕ) → a < s .actuators → faultSetpointAt s j a + setpointSize ≤ faultAt s j + faultSize s
+  setpoint-room a l = omega arith

@@ -3,6 +3,7 @@
 use mathlib.Core.Path.{_≡_, refl, sym, _∙_}
 use mathlib.Core.Bool.{Bool, true, false}
 use mathlib.Core.List.{List}
+use mathlib.Core.Option.{some}
 use Prim.Native.Nat.{ℕ, zero, suc, _+_, _*_, _%_, _≤_, _<_, min}
 use native.Mathlib.Omega.{arith}
 use native.Mathlib.Nat.{mod-eq-of-lt, mod-add-mod}
@@ -13,23 +14,25 @@ use Rattle.array.specs.Index.{howMany}
 use Rattle.array.proofs.TestLaws.{split, clash}
 use Rattle.plan.specs.declared.Plan.{Plan}
 use Rattle.plan.specs.Known.{noneKnown, known, period}
+use Rattle.plan.specs.Sizes.{sizesOf}
 use Rattle.plan.specs.Accepted.{accepted}
 use Rattle.plan.proofs.AcceptedLaws.{Shape, shape-of-accepted, period-of-accepted}
 use Rattle.plan.proofs.KnownLaws.{known-first, known-next, none-known}
 use Rattle.plan.proofs.PeriodLaws.{allKnown-at, period-reached}
 use Rattle.memory.specs.declared.Memory.{Memory}
 use Rattle.memory.specs.Size.{binSize}
-use Rattle.memory.specs.Node.{computed, before, messageOf, voted, setpoint}
+use Rattle.memory.specs.Node.{computed, before, messageOf, binOf, voted, setpoint}
+use Rattle.ballot.specs.Plane.{plane}
 use Rattle.ballot.proofs.MajorityLaws.{holders-least}
+use Rattle.ballot.proofs.PlaneLaws.{plane-of-most}
 use Rattle.task.proofs.TaskLaws.{Agree, Bounded}
-use Rattle.memory.proofs.MessageLaws.{message-length}
+use Rattle.memory.proofs.MessageLaws.{bin-length}
 use Rattle.memory.proofs.NodeLaws.{memory-same, computed-small, computed-next, computed-length, computed-past, computed-bounded}
 use Rattle.memory.proofs.VoteLaws.{MostHold, most-of-messages, most-counter, most-agree, most-own, frame-agree, vote-length, vote-past, before-computed}
 use Rattle.system.specs.declared.System.{System}
 use Rattle.system.specs.Fault.{bad}
-use Rattle.system.specs.Plane.{plane}
-use Rattle.system.specs.Frame.{memoryOf, goodOf, computedBy, heard, mailboxOf, memoryAfter, putOut, goodAfter}
-use Rattle.system.proofs.PlaneLaws.{plane-of-most}
+use Rattle.system.specs.Counts.{countAfter, goodAfter}
+use Rattle.system.specs.Frame.{memoryOf, goodOf, computedBy, heard, mailboxOf, memoryAfter, putOut}
 use Rattle.system.proofs.FaultLaws.{faultMemory-length, faultMemory-past, faultMessage-length}
 use Rattle.system.proofs.RecoveryLaws.{SameRecovery, recovery-sym, known-same, period-same}
 
@@ -93,7 +96,7 @@ heard-length :
     length (heard p sys sensors mask faults i j) ≡ binSize p
 unfolding heard
 heard-length p sys sensors mask faults i j =
-    split (bad mask j) (λ e. rw e (faultMessage-length p faults j i)) (λ e. rw e (message-length p _))
+    split (bad mask j) (λ e. rw e (faultMessage-length (sizesOf p) faults j i)) (λ e. rw e (bin-length p _))
 
 -- ---- one frame
 
@@ -130,7 +133,7 @@ module _
     run-frame : before p (s′ .counter) ≡ s .counter
     run-frame = before-computed p sensors s (shape .frames-pos) ∙ mod-eq-of-lt (single .counter)
 
-    sends : (i j : ℕ) → j < p .nodes → most .work j ≡ true → heard p sys sensors mask faults i j ≡ messageOf p s′
+    sends : (i j : ℕ) → j < p .nodes → most .work j ≡ true → heard p sys sensors mask faults i j ≡ binOf (messageOf p s′)
     unfolding heard computedBy
     sends i j l w = rw (most .good j l w, most .holds j l w)
 
@@ -210,8 +213,8 @@ module _
     good-node :
         (i : ℕ) → bad mask i ≡ false →
         Node p s (old i) (goodOf sys i) →
-        Node p s′ (memoryAfter p sys sensors mask faults i) (goodAfter p sys sensors mask faults i)
-    unfolding memoryAfter computedBy goodAfter
+        Node p s′ (memoryAfter p sys sensors mask faults i) (goodAfter (period p) mask (sys .good) i)
+    unfolding memoryAfter computedBy goodAfter countAfter
     good-node i good node =
         rw good (split (eqb k (period p))
         (λ t.
@@ -229,14 +232,14 @@ module _
     bad-node :
         (i : ℕ) → bad mask i ≡ true →
         Node p s (old i) (goodOf sys i) →
-        Node p s′ (memoryAfter p sys sensors mask faults i) (goodAfter p sys sensors mask faults i)
-    unfolding memoryAfter goodAfter
+        Node p s′ (memoryAfter p sys sensors mask faults i) (goodAfter (period p) mask (sys .good) i)
+    unfolding memoryAfter goodAfter countAfter
     bad-node i e node =
         rw e
         (record {
           most = omega arith;
-          size = faultMemory-length p faults i (old i) ∙ node .size ∙ sym (computed-length p sensors s);
-          past = λ x l. faultMemory-past p faults i (old i) x l ∙ node .past x l ∙ sym (computed-past p sensors s shape x l);
+          size = faultMemory-length (sizesOf p) faults i (old i) ∙ node .size ∙ sym (computed-length p sensors s);
+          past = λ x l. faultMemory-past (sizesOf p) faults i (old i) x l ∙ node .past x l ∙ sym (computed-past p sensors s shape x l);
           whole = λ z. absurd (omega (arith, period-of-accepted p accept));
           part = λ a b. absurd (omega arith);
         })
@@ -244,7 +247,7 @@ module _
     pub node-after :
         (i : ℕ) →
         Node p s (old i) (goodOf sys i) →
-        Node p s′ (memoryAfter p sys sensors mask faults i) (goodAfter p sys sensors mask faults i)
+        Node p s′ (memoryAfter p sys sensors mask faults i) (goodAfter (period p) mask (sys .good) i)
     node-after i node = split (bad mask i) (λ e. bad-node i e node) (λ e. good-node i e node)
 
     -- ---- the plane
@@ -253,11 +256,11 @@ module _
     unfolding memoryAfter computedBy
     work-after j l w = rw (most .good j l w, most .holds j l w) (vote-whole j)
 
-    work-puts : (a j : ℕ) → j < p .nodes → most .work j ≡ true → putOut p sys sensors mask faults a j ≡ setpoint p s′ a
+    work-puts : (a j : ℕ) → j < p .nodes → most .work j ≡ true → putOut p sys sensors mask faults a j ≡ some (setpoint p s′ a)
     unfolding putOut
     work-puts a j l w = rw (most .good j l w, work-after j l w)
 
-    pub plane-single : (a : ℕ) → plane (putOut p sys sensors mask faults a) (p .nodes) ≡ setpoint p s′ a
+    pub plane-single : (a : ℕ) → plane (putOut p sys sensors mask faults a) (p .nodes) ≡ some (setpoint p s′ a)
     plane-single a =
         plane-of-most (putOut p sys sensors mask faults a) (p .nodes) (setpoint p s′ a)
         (omega (arith, most .half, holders-least (most .work) (putOut p sys sensors mask faults a) (p .nodes) (setpoint p s′ a) (work-puts a)))
@@ -302,7 +305,7 @@ pub node-after-same :
     (p q : Plan) → SameRecovery p q → accepted q ≡ true → (sys : System) (s : Memory) (sensors : List ℕ) (mask : ℕ) (faults : List ℕ) →
     Single p s → Bounded sensors → MostWork p sys s mask →
     (i : ℕ) → Node p s (memoryOf sys i) (goodOf sys i) →
-    Node p (computed q sensors s) (memoryAfter q sys sensors mask faults i) (goodAfter q sys sensors mask faults i)
+    Node p (computed q sensors s) (memoryAfter q sys sensors mask faults i) (goodAfter (period q) mask (sys .good) i)
 node-after-same p q same accept sys s sensors mask faults single patterns most i node =
     node-same q p (recovery-sym same)
     (node-after q accept sys s sensors mask faults (single-same p q same single) patterns (mostWork-same p q same most) i (node-same p q same node))

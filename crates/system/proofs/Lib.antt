@@ -1,7 +1,8 @@
 pub mod PowerOnLaws
-pub mod PlaneLaws
 pub mod RecoveryLaws
 pub mod FaultLaws
+pub mod FaultsOfBadLaws
+pub mod CountLaws
 pub mod FrameLaws
 pub mod StateLaws
 pub mod DemandLaws

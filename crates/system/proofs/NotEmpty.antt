@@ -18,14 +18,16 @@ use Rattle.answer.specs.declared.Answer.the-variants.{Done, InvalidPlan, WrongL
 use Rattle.plan.specs.declared.Op.the-variants.{Take, Sum}
 use Rattle.plan.specs.declared.Plan.{Plan}
 use Rattle.plan.specs.Known.{unusedTask, votedIn, reads, readsKnown, knowTask, knowTasks, knowVoted, knowFrame, known, allKnown, periodTo, period}
+use Rattle.plan.specs.Sizes.{sizesOf}
 use Rattle.plan.specs.Accepted.{headerOk, constantsOk, opOk, taskOk, isZeroTake, isUnused, notFalling, taskEntry, initialEntry, voteEntry, actuatorEntry, entriesOk, opStorable, storable, wellFormed, accepted}
 use Rattle.task.specs.Task.{opValue, runTask, runTasks}
-use Rattle.ballot.specs.Majority.{holders, firstShared, majority, orOwn}
-use Rattle.memory.specs.Node.{poweredOn, computed, before, sentCell, messageOf, counterIn, cellIn, votedCounter, votedCell, voted, setpoint}
+use Rattle.ballot.specs.Majority.{holds, holders, shared, firstShared, majority, orOwn}
+use Rattle.ballot.specs.Plane.{backing, mostHeld, plane}
+use Rattle.memory.specs.Node.{poweredOn, computed, before, sentCell, messageOf, binOf, counterFrom, cellFrom, counterIn, cellIn, votedCounter, votedCell, voted, setpoint}
 use Rattle.system.specs.System.{powerOn}
 use Rattle.system.specs.Fault.{faultMemory, faultMessage, faultSetpoint}
-use Rattle.system.specs.Plane.{mostHeld, plane}
-use Rattle.system.specs.Frame.{memoryOf, computedBy, heard, mailboxOf, memoryAfter, putOut, goodAfter, systemAfter, placeAfter, maskOk, countsOk, lengthsOk, inTurn, frameRuns, frameAnswer, framePlace, singlePlace}
+use Rattle.system.specs.Counts.{countAfter, goodAfter}
+use Rattle.system.specs.Frame.{memoryOf, computedBy, heard, mailboxOf, memoryAfter, putOut, systemAfter, placeAfter, maskOk, countsOk, lengthsOk, inTurn, frameRuns, frameAnswer, framePlace, singlePlace}
 use Rattle.system.specs.Demand.{Call, callLengths, callAnswer, isFrame, next, answers, places, finally, singleNext, singlePlaces, singleFinally, callAnswers, masks, goodIn, MostGood, Premise, OnePlan, Masked}
 use Rattle.system.proofs.DemandLaws.{demand3}
 
@@ -182,7 +184,7 @@ mixed-premise =
     refused : {A : Type 0} → false ≡ true → A
     refused e = absurd (clash e refl)
 
-pub mixed-messages : faultMessage planK varied 0 1 ≡ faultMessage planK varied 0 2 → ⊥
+pub mixed-messages : faultMessage (sizesOf planK) varied 0 1 ≡ faultMessage (sizesOf planK) varied 0 2 → ⊥
 unfolding faultMessage varied filled from planK plan
 mixed-messages e = omega (arith, ap (λ (l : List ℕ). getD l 0 0) e)
 
@@ -211,9 +213,10 @@ outside = call planK 3 filled one (lit< tt) ∷ []
 
 outside-places : places (powerOn planK) outside ≡ (18446744073709551615 ∷ []) ∷ []
 unfolding places framePlace frameRuns countsOk maskOk lengthsOk outside call filled powerOn poweredOn placeAfter memoryAfter putOut computedBy heard mailboxOf
-    faultMemory faultMessage faultSetpoint plane mostHeld computed messageOf sentCell before voted votedCounter votedCell orOwn counterIn cellIn setpoint
-    majority firstShared holders runTasks runTask opValue sumOf votedIn howMany fill joined from be bytes bit ofBits toBits isNan add
-    planK plan noVotes period periodTo allKnown known knowFrame knowVoted knowTasks knowTask readsKnown reads allBelow allIn
+    faultMemory faultMessage faultSetpoint plane mostHeld backing computed messageOf binOf sentCell before voted votedCounter votedCell orOwn counterFrom
+    cellFrom counterIn cellIn setpoint majority firstShared shared holders holds runTasks runTask opValue sumOf votedIn howMany fill joined from be bytes
+    bit ofBits toBits isNan add
+    planK plan noVotes period periodTo allKnown known knowFrame knowVoted knowTasks knowTask readsKnown reads allIn allBelow
 outside-places = rw planK-accepted refl
 
 outside-single : singlePlaces (poweredOn planK) outside ≡ (0 ∷ []) ∷ []
@@ -253,10 +256,11 @@ unfolding MostNow goodIn early call bit howMany planK plan
 early-now = (λ e. lit< tt, (λ e. lit< tt, tt))
 
 early-places : places (powerOn planK) early ≡ (0 ∷ []) ∷ (9221120237041090560 ∷ []) ∷ []
-unfolding places next frameAnswer framePlace frameRuns countsOk maskOk lengthsOk early call filled powerOn poweredOn systemAfter placeAfter memoryAfter goodAfter
-    putOut computedBy heard mailboxOf faultMemory faultMessage faultSetpoint plane mostHeld computed messageOf sentCell before voted votedCounter votedCell
-    orOwn counterIn cellIn setpoint majority firstShared holders runTasks runTask opValue sumOf votedIn howMany fill joined from be bytes bit ofBits toBits
-    isNan add planK plan noVotes period periodTo allKnown known knowFrame knowVoted knowTasks knowTask readsKnown reads allBelow allIn
+unfolding places next frameAnswer framePlace frameRuns countsOk maskOk lengthsOk early call filled powerOn poweredOn systemAfter placeAfter memoryAfter
+    goodAfter countAfter putOut computedBy heard mailboxOf faultMemory faultMessage faultSetpoint plane mostHeld backing computed messageOf binOf sentCell
+    before voted votedCounter votedCell orOwn counterFrom cellFrom counterIn cellIn setpoint majority firstShared shared holders holds runTasks runTask
+    opValue sumOf votedIn howMany fill joined from be bytes bit ofBits toBits isNan add planK plan noVotes period periodTo allKnown known knowFrame
+    knowVoted knowTasks knowTask readsKnown reads allIn allBelow
 early-places = rw planK-accepted refl
 
 early-single : singlePlaces (poweredOn planK) early ≡ (0 ∷ []) ∷ (one ∷ []) ∷ []

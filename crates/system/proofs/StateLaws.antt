@@ -1,6 +1,6 @@
 -- What holds between two frame calls: the record's good counts are what the masks give, and each node is by its count what `Node` says.
-use mathlib.Core.Path.{_≡_, refl, sym, ap, _∙_}
-use mathlib.Core.Bool.{Bool, true, false, not, cond}
+use mathlib.Core.Path.{_≡_, sym, ap, _∙_}
+use mathlib.Core.Bool.{Bool, true, not}
 use mathlib.Core.List.{List, [], _∷_, _++_}
 use Prim.Native.Nat.{ℕ, zero, suc, _+_, _%_, _≤_, _<_, min}
 use native.Mathlib.Omega.{arith}
@@ -8,7 +8,6 @@ use native.Mathlib.Nat.{add-zero, zero-mod, mod-add-mod, mod-eq-of-lt, mod-lt}
 use lib.Dec.{ltb}
 use lib.ListN.{length, getD, take, length-append}
 use borrow.Author.Tests.{ltb-true, ltb-false, not-true}
-use Rattle.array.specs.Index.{fill}
 use Rattle.array.proofs.TestLaws.{split, and-left, and-right}
 use Rattle.array.proofs.PlacesLaws.{fill-length, fill-in, fill-same}
 use Rattle.plan.specs.declared.Plan.{Plan}
@@ -23,66 +22,30 @@ use Rattle.memory.proofs.VoteLaws.{before-next}
 use Rattle.system.specs.declared.System.{System}
 use Rattle.system.specs.System.{zeroSystem, powerOn}
 use Rattle.system.specs.Fault.{bad}
-use Rattle.system.specs.Frame.{memoryOf, goodOf, memoryAfter, goodAfter, systemAfter, placeAfter, singlePlace}
+use Rattle.system.specs.Counts.{goodCount}
+use Rattle.system.specs.Frame.{memoryOf, goodOf, memoryAfter, systemAfter, placeAfter, singlePlace}
 use Rattle.system.specs.Demand.{goodIn, MostGood}
 use Rattle.system.proofs.RecoveryLaws.{SameRecovery, period-same}
+use Rattle.system.proofs.CountLaws.{count-least, count-since, Counts, counts-start, count-after, counts-after}
 use Rattle.system.proofs.FrameLaws.{Single, single-next, Recovering, Node, node-whole, MostWork, node-after, plane-single, single-same, node-same}
-
--- ---- the good count that masks give
-
--- of node i, from the masks of the frames since power-on, the newest first
-unfoldable pub countOf : Plan → ℕ → List ℕ → ℕ
-countOf p i [] = period p
-countOf p i (mask ∷ past) = cond (bad mask i) 0 (min (period p) (countOf p i past + 1))
-
-module _ (p : Plan) (i : ℕ) where
-  -- good in the last k frames: a count of k at least, and the other way round
-  pub count-least : (k : ℕ) (past : List ℕ) → k ≤ period p → goodIn i (take k past) ≡ true → k ≤ countOf p i past
-  unfolding goodIn countOf
-  count-least zero past l g = omega arith
-  count-least (suc k) [] l g = l
-  count-least (suc k) (mask ∷ past) l g =
-      let good : bad mask i ≡ false = not-true (bad mask i) (and-left _ (goodIn i (take k past)) g) in
-      rw good (omega (arith, count-least k past (omega arith) (and-right (not (bad mask i)) _ g)))
-
-  pub count-good : (k : ℕ) (past : List ℕ) → k ≤ countOf p i past → goodIn i (take k past) ≡ true
-  unfolding goodIn countOf
-  count-good zero past = λ l. refl
-  count-good (suc k) [] = λ l. refl
-  count-good (suc k) (mask ∷ past) =
-      split (bad mask i)
-      (λ e. rw e (λ l. absurd (omega arith)))
-      (λ e. rw e (λ l. count-good k past (omega arith)))
-
-  -- just after a bad frame: the number of good frames since, up to R
-  pub count-since :
-      (recent : List ℕ) (mask : ℕ) (past : List ℕ) →
-      goodIn i recent ≡ true → bad mask i ≡ true →
-      countOf p i (recent ++ (mask ∷ past)) ≡ min (period p) (length recent)
-  unfolding goodIn countOf
-  count-since [] mask past g b = rw b (omega arith)
-  count-since (m ∷ recent) mask past g b =
-      let good : bad m i ≡ false = not-true (bad m i) (and-left _ (goodIn i recent) g) in
-      rw good (omega (arith, count-since recent mask past (and-right (not (bad m i)) _ g) b))
 
 -- ---- between two calls
 
 -- the system, the single controller, and the masks of the frames so far, the newest first
 pub record State (p : Plan) (sys : System) (s : Memory) (past : List ℕ) : Type 0 where
   pub memories : p .nodes ≤ length (sys .memories)
-  pub counts : p .nodes ≤ length (sys .good)
+  pub counts : Counts p sys past
   pub single : Single p s
   -- the single has run every frame since power-on
   pub frames : s .counter ≡ length past % p .frames
-  pub count : (i : ℕ) → i < p .nodes → goodOf sys i ≡ countOf p i past
   pub node : (i : ℕ) → i < p .nodes → Node p s (memoryOf sys i) (goodOf sys i)
 
 pub state-start : (p : Plan) → accepted p ≡ true → State p (powerOn p) (poweredOn p) []
-unfolding powerOn countOf
+unfolding powerOn goodCount
 state-start p accept =
     record {
       memories = omega (arith, shape .nodes-high, fill-length (λ i. poweredOn p) (p .nodes) (zeroSystem .memories));
-      counts = omega (arith, shape .nodes-high, fill-length (λ i. period p) (p .nodes) (zeroSystem .good));
+      counts = counts;
       single =
           record {
             counter = poweredOn-small p shape;
@@ -90,24 +53,23 @@ state-start p accept =
             bounded = poweredOn-bounded p shape;
           };
       frames = poweredOn-counter p ∙ sym (zero-mod (p .frames));
-      count = full;
       node = λ i l.
-          rw (fill-in (λ k. poweredOn p) (p .nodes) (zeroSystem .memories) i zeroMemory l (omega (arith, shape .nodes-high)), full i l)
+          rw (fill-in (λ k. poweredOn p) (p .nodes) (zeroSystem .memories) i zeroMemory l (omega (arith, shape .nodes-high)), counts .count i l)
           (node-whole p (poweredOn p));
     }
   where
     shape : Shape p
     shape = shape-of-accepted p accept
 
-    full : (i : ℕ) → i < p .nodes → getD (fill (λ k. period p) (p .nodes) (zeroSystem .good)) i 0 ≡ period p
-    full i l = fill-in (λ k. period p) (p .nodes) (zeroSystem .good) i 0 l (omega (arith, shape .nodes-high))
+    counts : Counts p (powerOn p) []
+    counts = counts-start p accept
 
 -- a node that was good in the last R frames, or in all if fewer, has the single's memory
 pub state-whole :
     (p : Plan) (sys : System) (s : Memory) (past : List ℕ) → State p sys s past →
     (i : ℕ) → i < p .nodes → goodIn i (take (period p) past) ≡ true → memoryOf sys i ≡ s
 state-whole p sys s past st i l g =
-    st .node i l .whole (omega (arith, st .node i l .most, st .count i l, count-least p i (period p) past (omega arith) g))
+    st .node i l .whole (omega (arith, st .node i l .most, st .counts .count i l, count-least (period p) i (period p) past (omega arith) g))
 
 -- ---- a node that was good in the last frames, at least one, and bad in the one before
 
@@ -135,7 +97,7 @@ module _
     (i : ℕ) (l : i < p .nodes) (good : goodIn i recent ≡ true) (some : 0 < length recent) (fault : bad mask i ≡ true)
   where
     since : goodOf sys i ≡ min (period p) (length recent)
-    since = st .count i l ∙ count-since p i recent mask past good fault
+    since = st .counts .count i l ∙ count-since (period p) i recent mask past good fault
 
     -- its first good frame, in which the single ran the plan's frame of that number modulo F
     abbrev first : ℕ
@@ -188,25 +150,16 @@ module _
     unfolding systemAfter
     memory-after i l = fill-in (memoryAfter p sys sensors mask faults) (p .nodes) (sys .memories) i zeroMemory l (omega (arith, st .memories))
 
-    count-after : (i : ℕ) → i < p .nodes → goodOf (systemAfter p sys sensors mask faults) i ≡ goodAfter p sys sensors mask faults i
-    unfolding systemAfter
-    count-after i l = fill-in (goodAfter p sys sensors mask faults) (p .nodes) (sys .good) i 0 l (omega (arith, st .counts))
-
-    count-is : (i : ℕ) → i < p .nodes → goodAfter p sys sensors mask faults i ≡ countOf p i (mask ∷ past)
-    unfolding goodAfter countOf
-    count-is i l = rw (st .count i l)
-
     pub state-after : State p (systemAfter p sys sensors mask faults) (computed p sensors s) (mask ∷ past)
     unfolding systemAfter
     state-after =
         record {
           memories = omega (arith, st .memories, fill-length (memoryAfter p sys sensors mask faults) (p .nodes) (sys .memories));
-          counts = omega (arith, st .counts, fill-length (goodAfter p sys sensors mask faults) (p .nodes) (sys .good));
+          counts = counts-after p sys past (st .counts) sensors mask faults;
           single = single-next p (shape-of-accepted p accept) sensors s patterns (st .single);
           frames = counter-after p sensors s mask past (st .single .counter) (st .frames);
-          count = λ i l. count-after i l ∙ count-is i l;
           node = λ i l.
-              rw (memory-after i l, count-after i l)
+              rw (memory-after i l, count-after p sys past (st .counts) sensors mask faults i l)
               (node-after p accept sys s sensors mask faults (st .single) patterns most-work i (st .node i l));
         }
 
@@ -215,14 +168,16 @@ module _
     unfolding placeAfter singlePlace
     place-after place =
         fill-same _ (setpoint p (computed p sensors s)) (p .actuators) place
-        (λ a l. plane-single p accept sys s sensors mask faults (st .single) patterns most-work a)
+        (λ a l. rw (plane-single p accept sys s sensors mask faults (st .single) patterns most-work a))
 
 -- ---- a plan with the same recovery
 
-count-same : (p q : Plan) → SameRecovery p q → (i : ℕ) (past : List ℕ) → countOf p i past ≡ countOf q i past
-unfolding countOf
-count-same p q same i [] = period-same p q same
-count-same p q same i (mask ∷ past) = rw (count-same p q same i past, period-same p q same)
+counts-same : (p q : Plan) → SameRecovery p q → (sys : System) (past : List ℕ) → Counts p sys past → Counts q sys past
+counts-same p q same sys past h =
+    record {
+      size = omega (arith, h .size, same .nodes);
+      count = λ i l. h .count i (omega (arith, same .nodes)) ∙ rw (period-same p q same);
+    }
 
 pub mostGood-same : (p q : Plan) → SameRecovery p q → (mask : ℕ) (past : List ℕ) → MostGood p mask past → MostGood q mask past
 unfolding MostGood
@@ -232,9 +187,8 @@ pub state-same : (p q : Plan) → SameRecovery p q → (sys : System) (s : Memor
 state-same p q same sys s past st =
     record {
       memories = omega (arith, st .memories, same .nodes);
-      counts = omega (arith, st .counts, same .nodes);
+      counts = counts-same p q same sys past (st .counts);
       single = single-same p q same (st .single);
       frames = st .frames ∙ rw (same .frames);
-      count = λ i l. st .count i (omega (arith, same .nodes)) ∙ count-same p q same i past;
       node = λ i l. node-same p q same (st .node i (omega (arith, same .nodes)));
     }

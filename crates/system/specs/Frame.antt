@@ -1,7 +1,8 @@
 -- A frame of the whole system under faults, the single controller, and the two counts of the run listing.
-use mathlib.Core.Bool.{Bool, true, not, cond, _&&_}
+use mathlib.Core.Bool.{Bool, true, cond, _&&_}
 use mathlib.Core.List.{List}
-use Prim.Native.Nat.{ℕ, _+_, _^_, min}
+use mathlib.Core.Option.{Option, some, Option·getD}
+use Prim.Native.Nat.{ℕ, _^_}
 use lib.Dec.{eqb, leb, ltb}
 use lib.ListN.{getD, length}
 use Rattle.array.specs.Index.{howMany, allBelow, fill, joined}
@@ -12,12 +13,14 @@ use Rattle.plan.specs.Known.{period}
 use Rattle.plan.specs.Accepted.{accepted}
 use Rattle.memory.specs.declared.Memory.{Memory}
 use Rattle.node.specs.declared.Outcome.{Outcome}
-use Rattle.memory.specs.Node.{zeroMemory, computed, messageOf, voted, setpoint}
+use Rattle.memory.specs.Node.{zeroMemory, computed, messageOf, binOf, voted, setpoint}
+use Rattle.ballot.specs.Plane.{plane}
+use Rattle.plan.specs.Sizes.{sizesOf}
 use Rattle.system.specs.declared.System.{System}
 use Rattle.system.specs.declared.Framed.{Framed}
 use Rattle.system.specs.declared.Counted.{Counted}
 use Rattle.system.specs.Fault.{bad, faultsSize, faultMemory, faultMessage, faultSetpoint}
-use Rattle.system.specs.Plane.{plane}
+use Rattle.system.specs.Counts.{goodAfter, isWorking}
 
 -- node i's memory in a record
 abbrev pub memoryOf : System → ℕ → Memory
@@ -33,30 +36,28 @@ module _ (p : Plan) (sys : System) (sensors : List ℕ) (mask : ℕ) (faults : L
   unfoldable pub computedBy : ℕ → Memory
   computedBy j = computed p sensors (memoryOf sys j)
 
-  -- what node i hears of node j: "Good nodes receive good nodes' messages whole"
+  -- what node i hears of node j, in a bin: "Good nodes receive good nodes' messages whole"
   unfoldable pub heard : ℕ → ℕ → List ℕ
-  heard i j = cond (bad mask j) (faultMessage p faults j i) (messageOf p (computedBy j))
+  heard i j = cond (bad mask j) (faultMessage (sizesOf p) faults j i) (binOf (messageOf p (computedBy j)))
 
   -- "its mailbox is these bins one after another, node 0 first"
   unfoldable pub mailboxOf : ℕ → List ℕ
   mailboxOf i = joined (heard i) (p .nodes)
 
   unfoldable pub memoryAfter : ℕ → Memory
-  memoryAfter i = cond (bad mask i) (faultMemory p faults i (memoryOf sys i)) (voted p (computedBy i) (mailboxOf i))
+  memoryAfter i = cond (bad mask i) (faultMemory (sizesOf p) faults i (memoryOf sys i)) (voted p (computedBy i) (mailboxOf i))
 
   -- what node j puts out for actuator a
-  unfoldable pub putOut : ℕ → ℕ → ℕ
-  putOut a j = cond (bad mask j) (faultSetpoint p faults j a) (setpoint p (memoryAfter j) a)
-
-  -- "A bad node's count becomes 0; a good one's rises by 1 up to R."
-  unfoldable pub goodAfter : ℕ → ℕ
-  goodAfter i = cond (bad mask i) 0 (min (period p) (goodOf sys i + 1))
+  unfoldable pub putOut : ℕ → ℕ → Option ℕ
+  putOut a j = cond (bad mask j) (faultSetpoint (sizesOf p) faults j a) (some (setpoint p (memoryAfter j) a))
 
   unfoldable pub systemAfter : System
-  systemAfter = record { memories = fill memoryAfter (p .nodes) (sys .memories); good = fill goodAfter (p .nodes) (sys .good) }
+  systemAfter =
+      record { memories = fill memoryAfter (p .nodes) (sys .memories); good = fill (goodAfter (period p) mask (sys .good)) (p .nodes) (sys .good) }
 
+  -- every node puts something out, so the plane has a value (law `plane-some`)
   unfoldable pub placeAfter : List ℕ → List ℕ
-  placeAfter place = fill (λ a. plane (putOut a) (p .nodes)) (p .actuators) place
+  placeAfter place = fill (λ a. Option·getD (plane (putOut a) (p .nodes)) 0) (p .actuators) place
 
 -- ---- refusals of a frame call: 7, then 9, then 8
 
@@ -69,7 +70,7 @@ countsOk p sys = allBelow (λ i. leb (goodOf sys i) (period p)) (p .nodes)
 
 -- "8: sensors, setpoints, fault bytes .. not of exact length"
 unfoldable pub lengthsOk : Plan → ℕ → ℕ → ℕ → Bool
-lengthsOk p sensors faults place = eqb sensors (p .sensors) && eqb faults (faultsSize p) && eqb place (p .actuators)
+lengthsOk p sensors faults place = eqb sensors (p .sensors) && eqb faults (faultsSize (sizesOf p)) && eqb place (p .actuators)
 
 -- the refusal of a call by its three tests
 unfoldable pub inTurn : Bool → Bool → Bool → Answer
@@ -113,15 +114,11 @@ singlePlaceAfter p m sensors place =
 
 -- ---- the listing's two counts
 
--- "A node is working in a frame if it is good in it and its count before was R."
-unfoldable pub isWorking : Plan → System → ℕ → ℕ → Bool
-isWorking p sys mask i = not (bad mask i) && eqb (goodOf sys i) (period p)
-
 unfoldable pub workingAnswer : Plan → System → ℕ → Counted
 workingAnswer p sys mask =
     record {
       answer = inTurn (accepted p) (maskOk p mask && countsOk p sys) true;
-      count = cond (accepted p && (maskOk p mask && countsOk p sys)) (howMany (isWorking p sys mask) (p .nodes)) 0;
+      count = cond (accepted p && (maskOk p mask && countsOk p sys)) (howMany (isWorking (period p) mask (sys .good)) (p .nodes)) 0;
     }
 
 -- "nodes whose memory then equals the single controller's": counter and C cells, by bits

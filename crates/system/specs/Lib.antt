@@ -1,5 +1,5 @@
 pub mod System
 pub mod Fault
-pub mod Plane
+pub mod Counts
 pub mod Frame
 pub mod Demand

@@ -1,10 +1,11 @@
 -- `frame::agreeing` meets its contract: an answer for each way out.
-use mathlib.Core.Path.{_∙_}
+use mathlib.Core.Path.{refl, _∙_}
 use borrow.Author.Needs.{needs}
 use Rattle.recovery.proofs.AnswerLaws.{accepted-period, accepted-of-period, refused-of-period}
 use Rattle.plan.proofs.AcceptedLaws.{shape-of-accepted}
 use Rattle.array.proofs.TestLaws.{refused-test, passed-test}
 use Rattle.counts.proofs.CountLaws.{counts-are}
+use Rattle.rows.proofs.RowLaws.{agreeing-is}
 use Rattle.frame.proofs.CallLaws.{agreeing-plan, agreeing-counts, agreeing-done}
 use Rattle.frame.proofs.agreeing.Statement.{statement}
 use Rattle.frame.proofs.agreeing.Tie as tie
@@ -24,15 +25,18 @@ returns-2 c =
     agreeing-counts _ _ _ ok (refused-test tests (c .if2 .taken))
 
 agreeing-requires : tie.Need-agreeing-requires
-agreeing-requires c κs = accepted-of-period _ (c .before .before .before .before .before .accepted-period .ensures) (c .before .before .before .before .if1 .left)
+agreeing-requires c κs =
+    let s = shape-of-accepted _ (accepted-of-period _ (c .before .before .before .before .before .before .before .before .before .before .before .before .before .before .before .before .before .accepted-period .ensures) (c .before .before .before .before .before .before .before .before .before .before .before .before .before .before .before .before .if1 .left)) in
+    (search needs, search needs, s .nodes-high, s .cells-le)
 
 returns-3 : tie.Need-returns-3
 returns-3 c =
-    let r = c .before .before .before .before .before .before .accepted-period in
-    let a = c .before .before .before .before .before .before .before .args in
-    let ok = accepted-of-period _ (r .ensures) (c .before .before .before .before .before .if1 .left) in
-    let tests = counts-are (a .plan) (a .t2) 0 (r .ensures ∙ accepted-period _ ok) (c .before .before .counts-ok .ensures) in
-    agreeing-done _ _ _ ok (passed-test tests (c .before .if2 .left)) (c .agreeing .ensures)
+    let r = c .before .before .before .before .before .before .before .before .before .before .before .before .before .before .before .before .before .before .accepted-period in
+    let a = c .before .before .before .before .before .before .before .before .before .before .before .before .before .before .before .before .before .before .before .args in
+    let ok = accepted-of-period _ (r .ensures) (c .before .before .before .before .before .before .before .before .before .before .before .before .before .before .before .before .before .if1 .left) in
+    let tests = counts-are (a .plan) (a .t2) 0 (r .ensures ∙ accepted-period _ ok) (c .before .before .before .before .before .before .before .before .before .before .before .before .before .before .counts-ok .ensures) in
+    agreeing-done _ _ _ ok (passed-test tests (c .before .before .before .before .before .before .before .before .before .before .before .before .before .if2 .left))
+    (c .agreeing .ensures ∙ agreeing-is (a .plan) (a .t2) (a .memory) _ _ _ (a .plan .nodes) (c .before .before .before .before .before .unpack .ensures .0) (c .before .before .before .before .before .unpack .ensures .1 ∙ c .before .before .before .before .before .before .before .before .before .before .put-memory .ensures .here) refl (shape-of-accepted _ ok .nodes-high))
 
 pub agreeing-spec : {M : Type 1} → statement M
 agreeing-spec =
@@ -42,5 +46,13 @@ agreeing-spec =
     returns
     counts-ok-requires
     returns-2
+    (λ c. search needs)
+    (λ c. search needs)
+    (λ c κs. search needs)
+    (λ c. search needs)
+    (λ c. search needs)
+    (λ c κs. search needs)
+    (λ c. search needs)
+    (λ c. search needs)
     agreeing-requires
     returns-3)

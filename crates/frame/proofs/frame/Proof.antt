@@ -37,8 +37,8 @@ returns-3 c =
     let tests = mask-are (a .plan) (a .t2) (a .mask) (r .ensures ∙ accepted-period _ ok) (c .before .before .before .before .before .before .mask-ok .ensures) (c .before .before .before .counts-ok .ensures) in
     frame-length _ _ _ _ _ _ ok (passed-test tests (c .before .before .if2 .left)) (refused-test (c .before .lengths-ok .ensures) (c .if3 .taken))
 
-frame-requires : tie.Need-frame-requires
-frame-requires c κs =
+on-rows-requires : tie.Need-on-rows-requires
+on-rows-requires c κs =
     let r = c .before .before .before .before .before .before .before .before .before .accepted-period in
     let ok = accepted-of-period _ (r .ensures) (c .before .before .before .before .before .before .before .before .if1 .left) in
     let told = lengths-told (c .before .before .before .before .before .before .before .before .before .before .before .before .before .args .plan) _ _ _ (passed-test (c .before .before .lengths-ok .ensures) (c .before .if3 .left)) in
@@ -50,7 +50,7 @@ returns-4 c =
     let a = c .before .before .before .before .before .before .before .before .before .before .before .before .before .before .before .before .args in
     let ok = accepted-of-period _ (r .ensures) (c .before .before .before .before .before .before .before .before .before .before .before .if1 .left) in
     let tests = mask-are (a .plan) (a .t2) (a .mask) (r .ensures ∙ accepted-period _ ok) (c .before .before .before .before .before .before .before .before .before .before .mask-ok .ensures) (c .before .before .before .before .before .before .before .counts-ok .ensures) in
-    frame-done _ _ _ _ _ _ ok (passed-test tests (c .before .before .before .before .before .before .if2 .left)) (passed-test (c .before .before .before .before .before .lengths-ok .ensures) (c .before .before .before .before .if3 .left)) (c .before .before .frame .ensures)
+    frame-done _ _ _ _ _ _ ok (passed-test tests (c .before .before .before .before .before .before .if2 .left)) (passed-test (c .before .before .before .before .before .lengths-ok .ensures) (c .before .before .before .before .if3 .left)) (c .before .before .on-rows .ensures)
 
 pub frame-spec : {M : Type 1} → statement M
 frame-spec =
@@ -63,6 +63,6 @@ frame-spec =
     returns-2
     lengths-ok-requires
     returns-3
-    frame-requires
+    on-rows-requires
     (λ c. search needs)
     returns-4)

@@ -1,22 +1,21 @@
--- `frame::lengths_ok` meets its contract: the fault bytes of an accepted plan are few, so that no product wraps.
-use native.Mathlib.Omega.{arith}
+-- `frame::lengths_ok` meets its contract.
+use mathlib.Core.Path.{_≡_, ap, _∙_}
+use borrow.Author.Needs.{needs}
+use Prim.Native.Nat.{ℕ}
+use Rattle.plan.specs.declared.Sizes.{Sizes}
 use Rattle.plan.proofs.AcceptedLaws.{shape-of-accepted}
+use Rattle.system.specs.Fault.{faultsSize}
 use Rattle.system.specs.Frame.{lengthsOk}
-use Rattle.mail.proofs.SizeLaws.{faults-small}
+use Rattle.frame.proofs.CallLaws.{small-numbers}
 use Rattle.frame.proofs.lengths_ok.Statement.{statement}
 use Rattle.frame.proofs.lengths_ok.Tie as tie
 
-fault-size-requires : tie.Need-fault-size-requires
-fault-size-requires c κs = let s = shape-of-accepted (c .before .args .plan) (c .before .pre) in (s .nodes-high, s .cells-le, s .actuators-le)
-
-mul-result : tie.Need-mul-result
-mul-result c =
-    let a = c .before .before .args in
-    let s = shape-of-accepted (a .plan) (c .before .before .pre) in omega (arith, faults-small (a .plan .nodes) (a .plan .cells) (a .plan .actuators) (s .nodes-high) (s .cells-le) (s .actuators-le) (c .fault-size .result) (c .fault-size .ensures))
+size-requires : tie.Need-size-requires
+size-requires c κs = small-numbers (c .before .before .args .plan) (c .before .before .pre) (c .numbers-of .ensures)
 
 returns : tie.Need-returns
 unfolding lengthsOk
-returns c = rw (c .fault-size .ensures)
+returns c = rw (c .before .size .ensures, c .before .before .numbers-of .ensures)
 
 pub lengths-ok-spec : {M : Type 1} → statement M
-lengths-ok-spec = tie.close (tie.spec fault-size-requires mul-result returns)
+lengths-ok-spec = tie.close (tie.spec (λ c κs. search needs) size-requires returns)

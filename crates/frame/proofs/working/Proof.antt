@@ -27,18 +27,15 @@ returns-2 c =
     working-mask _ _ _ ok (refused-test tests (c .if2 .taken))
 
 working-requires : tie.Need-working-requires
-working-requires c κs =
-    let r = c .before .before .before .before .before .before .accepted-period in
-    let ok = accepted-of-period _ (r .ensures) (c .before .before .before .before .before .if1 .left) in
-    (ok, r .ensures ∙ accepted-period _ ok)
+working-requires c κs = shape-of-accepted _ (accepted-of-period _ (c .before .before .before .before .before .before .before .before .accepted-period .ensures) (c .before .before .before .before .before .before .before .if1 .left)) .nodes-high
 
 returns-3 : tie.Need-returns-3
 returns-3 c =
-    let r = c .before .before .before .before .before .before .before .accepted-period in
-    let a = c .before .before .before .before .before .before .before .before .args in
-    let ok = accepted-of-period _ (r .ensures) (c .before .before .before .before .before .before .if1 .left) in
-    let tests = mask-are (a .plan) (a .t2) (a .mask) (r .ensures ∙ accepted-period _ ok) (c .before .before .before .before .before .mask-ok .ensures) (c .before .before .counts-ok .ensures) in
-    working-done _ _ _ ok (passed-test tests (c .before .if2 .left)) (c .working .ensures)
+    let r = c .before .before .before .before .before .before .before .before .before .accepted-period in
+    let a = c .before .before .before .before .before .before .before .before .before .before .args in
+    let ok = accepted-of-period _ (r .ensures) (c .before .before .before .before .before .before .before .before .if1 .left) in
+    let tests = mask-are (a .plan) (a .t2) (a .mask) (r .ensures ∙ accepted-period _ ok) (c .before .before .before .before .before .before .before .mask-ok .ensures) (c .before .before .before .before .counts-ok .ensures) in
+    working-done _ _ _ ok (passed-test tests (c .before .before .before .if2 .left)) (r .ensures ∙ accepted-period _ ok) (c .working .ensures)
 
 pub working-spec : {M : Type 1} → statement M
 working-spec =

@@ -1,31 +1,26 @@
 -- `measure::step_often` is safe: the parts lent lie in the buffers.
-use mathlib.Core.Path.{sym, subst}
-use Prim.Native.Nat.{ℕ, _*_, _≤_}
+use mathlib.Core.Path.{_≡_, sym, ap, _∙_, subst}
 use native.Mathlib.Omega.{arith}
-use Rattle.mail.proofs.SizeLaws.{block-small, faults-small}
+use Rattle.plan.specs.Sizes.{numbersOf}
+use Rattle.system.specs.Fault.{faultsSize}
+use Rattle.faults.specs.Code.{Small}
+use Rattle.faults.proofs.PartLaws.{bins-most, most-enough}
 use borrow.Author.Needs.{needs}
 use Rattle.measure.proofs.step_often.Statement.{statement}
 use Rattle.measure.proofs.step_often.Tie as tie
 
-mul-all : tie.Need-mul-all
-mul-all c = omega (arith, faults-small (c .before .before .before .before .before .before .args .plan .nodes) (c .before .before .before .before .before .before .args .plan .cells) (c .before .before .before .before .before .before .args .plan .actuators) (c .before .before .before .before .before .if1 .left) (c .before .before .before .before .if2 .left) (c .before .before .if4 .left) (c .fault-size .result) (c .fault-size .ensures))
-
-mul-end : tie.Need-mul-end
-mul-end c =
-    let p = c .before .before .before .before .before .before .args .plan in
-    let s = c .before .message-size in
-    let h : p .nodes * s .result ≤ 1806 = subst (λ (w : ℕ). p .nodes * w ≤ 1806) (sym (s .ensures)) (block-small (p .nodes) (p .cells) (p .actuators) (c .before .before .before .before .before .if1 .left) (c .before .before .before .before .if2 .left) (c .before .before .if4 .left)) in
-    omega arith
+size-requires : tie.Need-size-requires
+size-requires c κs = subst Small (sym (c .numbers-of .ensures)) (record { nodes = c .before .before .before .before .before .before .if1 .left; cells = c .before .before .before .before .before .if2 .left; actuators = c .before .before .before .if4 .left })
 
 part-bins-end : tie.Need-part-bins-end
 part-bins-end c =
-    let p = c .before .before .before .before .before .before .before .before .args .plan in
-    let s = c .before .before .before .message-size in
-    let h : p .nodes * s .result ≤ 1806 = subst (λ (w : ℕ). p .nodes * w ≤ 1806) (sym (s .ensures)) (block-small (p .nodes) (p .cells) (p .actuators) (c .before .before .before .before .before .before .before .if1 .left) (c .before .before .before .before .before .before .if2 .left) (c .before .before .before .before .if4 .left)) in
-    omega arith
+    let p = c .before .before .before .before .before .before .before .before .before .before .args .plan in
+    omega (arith, c .before .before .before .before .bin-at .ensures, bins-most (numbersOf p 0) (record { nodes = c .before .before .before .before .before .before .before .before .before .if1 .left; cells = c .before .before .before .before .before .before .before .before .if2 .left; actuators = c .before .before .before .before .before .before .if4 .left }) (p .nodes) (c .before .before .before .before .before .before .before .before .before .if1 .left))
 
 part-frame-often-end : tie.Need-part-frame-often-end
-part-frame-often-end c = omega (arith, faults-small (c .before .before .before .before .before .before .before .before .before .args .plan .nodes) (c .before .before .before .before .before .before .before .before .before .args .plan .cells) (c .before .before .before .before .before .before .before .before .before .args .plan .actuators) (c .before .before .before .before .before .before .before .before .if1 .left) (c .before .before .before .before .before .before .before .if2 .left) (c .before .before .before .before .before .if4 .left) (c .before .before .before .fault-size .result) (c .before .before .before .fault-size .ensures))
+part-frame-often-end c =
+    let p = c .before .before .before .before .before .before .before .before .before .before .before .args .plan in
+    omega (arith, c .before .before .before .size .ensures ∙ ap faultsSize (c .before .before .before .before .numbers-of .ensures), most-enough (numbersOf p 0) (record { nodes = c .before .before .before .before .before .before .before .before .before .before .if1 .left; cells = c .before .before .before .before .before .before .before .before .before .if2 .left; actuators = c .before .before .before .before .before .before .before .if4 .left }))
 
 pub step-often-spec : {M : Type 1} → statement M
 step-often-spec =
@@ -37,8 +32,8 @@ step-often-spec =
     (λ c. search needs)
     (λ c κs. search needs)
     (λ c κs. search needs)
-    mul-all
-    mul-end
+    (λ c κs. search needs)
+    size-requires
     (λ c. search needs)
     (λ c. search needs)
     (λ c. search needs)

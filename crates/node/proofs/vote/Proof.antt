@@ -1,8 +1,5 @@
 -- `node::vote` meets its contract: an answer for each way out.
-use mathlib.Core.Path.{sym, ap, _∙_}
-use Prim.Native.Nat.{ℕ, _*_}
-use native.Mathlib.Omega.{arith}
-use native.Mathlib.Nat.{mul-le-mul-right}
+use mathlib.Core.Path.{sym, _∙_}
 use borrow.Author.Needs.{needs}
 use Rattle.plan.proofs.AcceptedLaws.{shape-of-accepted}
 use Rattle.recovery.proofs.AnswerLaws.{accepted-of-period, refused-of-period}
@@ -15,34 +12,26 @@ returns : tie.Need-returns
 unfolding voteAnswer
 returns c = outcome (plan-refused _ _ _ _ _ (refused-of-period _ (c .before .accepted-period .ensures) (c .if1 .taken)))
 
-message-size-requires : tie.Need-message-size-requires
-message-size-requires c κs = shape-of-accepted _ (accepted-of-period _ (c .before .accepted-period .ensures) (c .if1 .left)) .cells-le
-
-mul-if2 : tie.Need-mul-if2
-mul-if2 c =
-    let s = shape-of-accepted (c .before .before .before .before .args .plan) (accepted-of-period _ (c .before .before .accepted-period .ensures) (c .before .if1 .left)) in
-    omega (arith, s .cells-le, mul-le-mul-right (c .message-size .result) (s .nodes-high))
+bin-at-requires : tie.Need-bin-at-requires
+bin-at-requires c κs = let s = shape-of-accepted _ (accepted-of-period _ (c .before .accepted-period .ensures) (c .if1 .left)) in (s .nodes-high, s .cells-le)
 
 returns-2 : tie.Need-returns-2
 unfolding voteAnswer
 returns-2 c =
     outcome
     (length-refused _ _ _ _ _ (accepted-of-period _ (c .before .before .before .accepted-period .ensures) (c .before .before .if1 .left))
-    (λ e. c .if2 .taken (e ∙ ap (λ (s : ℕ). c .before .before .before .before .before .args .plan .nodes * s) (sym (c .before .message-size .ensures)))))
+    (λ e. c .if2 .taken (e ∙ sym (c .before .bin-at .ensures))))
 
 vote-requires : tie.Need-vote-requires
-vote-requires c κs = (
-  accepted-of-period _ (c .before .before .before .accepted-period .ensures) (c .before .before .if1 .left),
-  c .if2 .left ∙ ap (λ (s : ℕ). c .before .before .before .before .before .args .plan .nodes * s) (c .before .message-size .ensures),
-)
+vote-requires c κs = (accepted-of-period _ (c .before .before .before .accepted-period .ensures) (c .before .before .if1 .left), c .if2 .left ∙ c .before .bin-at .ensures)
 
 returns-3 : tie.Need-returns-3
 unfolding voteAnswer
 returns-3 c =
     outcome
     (call-done _ _ _ _ _ (accepted-of-period _ (c .before .before .before .before .accepted-period .ensures) (c .before .before .before .if1 .left))
-    (c .before .if2 .left ∙ ap (λ (s : ℕ). c .before .before .before .before .before .before .args .plan .nodes * s) (c .before .before .message-size .ensures))
+    (c .before .if2 .left ∙ c .before .before .bin-at .ensures)
     (c .vote .ensures))
 
 pub vote-spec : {M : Type 1} → statement M
-vote-spec = tie.close (tie.spec (λ c κs. search needs) returns message-size-requires mul-if2 returns-2 vote-requires returns-3)
+vote-spec = tie.close (tie.spec (λ c κs. search needs) returns bin-at-requires returns-2 vote-requires returns-3)

@@ -1,26 +1,35 @@
 -- `run::follow` ends: each block that is read whole brings the run nearer to its last line.
-use mathlib.Core.Path.{_≡_, refl, sym, ap, _∙_}
+use mathlib.Core.Path.{_≡_, refl, sym, ap, _∙_, subst}
 use mathlib.Core.Bool.{true}
+use mathlib.Core.List.{List, _++_}
 use Prim.Native.Nat.{ℕ, _-_, _*_, _≤_}
 use native.Mathlib.Omega.{arith}
-use lib.ListN.{length, take, length-replicate}
-use lib.Seq.{length-take-le, length-front}
+use lib.ListN.{length, take, drop, length-replicate}
+use lib.Seq.{length-take-le, length-front, take-at}
+use borrow.Author.Needs.{needs}
 use borrow.Author.Tests.{not-false}
 use Rattle.plan.specs.declared.Plan.{Plan}
+use Rattle.plan.specs.declared.Sizes.{Sizes}
 use Rattle.plan.specs.Known.{period}
+use Rattle.plan.specs.Limits.{mostNodes}
+use Rattle.plan.specs.Sizes.{numbersOf, sizesOf}
 use Rattle.plan.specs.Accepted.{accepted}
 use Rattle.plan.proofs.AcceptedLaws.{shape-of-accepted}
+use Rattle.system.specs.Fault.{faultsSize}
+use Rattle.faults.specs.Code.{Small, Held}
+use Rattle.faults.proofs.PartLaws.{small-of-shape, most-enough, held-zero}
 use Rattle.lines.specs.Listing.{mostLines}
 use Rattle.lines.proofs.StepLaws.{front-length}
 use Rattle.run.proofs.follow.Statement.{statement}
 use Rattle.run.proofs.follow.Tie as tie
 
 abbrev Inv-loop : tie.InvT-loop
-Inv-loop file size run₀ input₀ out₀ run input out =
+Inv-loop file size bytes run₀ input₀ out₀ held₀ faults₀ run input out held faults =
     (accepted (run .plan) ≡ true) × (run .period ≡ period (run .plan)) × (run .frame ≤ mostLines) × (run .plan ≡ run₀ .plan) × (length input ≡ 42112) × (length out ≡ 22656)
+    × (length held ≡ mostNodes) × (length faults ≡ 14896) × Held (sizesOf (run .plan)) held (take (bytes - 0) faults)
 
 abbrev μ-loop : tie.MeasureT-loop
-μ-loop file size run₀ input₀ out₀ run input out = mostLines - run .frame
+μ-loop file size bytes run₀ input₀ out₀ held₀ faults₀ run input out held faults = mostLines - run .frame
 
 line-size-requires : tie.Need-line-size-requires Inv-loop μ-loop
 line-size-requires c κs = shape-of-accepted _ (c .pre .0) .sensors-le
@@ -28,51 +37,74 @@ line-size-requires c κs = shape-of-accepted _ (c .pre .0) .sensors-le
 mul-size : tie.Need-mul-size Inv-loop μ-loop
 mul-size c = omega (arith, c .line-size .ensures, shape-of-accepted (c .before .args .start .plan) (c .before .pre .0) .sensors-le)
 
+size-requires : tie.Need-size-requires Inv-loop μ-loop
+size-requires c κs =
+    let h = shape-of-accepted (c .before .before .args .start .plan) (c .before .before .pre .0) in
+    subst Small (sym (c .numbers-of .ensures)) (record { nodes = h .nodes-high; cells = h .cells-le; actuators = h .actuators-le })
+
 loop-holds : tie.Need-loop-holds Inv-loop μ-loop
 loop-holds c =
     let z : ℕ = 0 in
-    (c .before .pre .0, c .before .pre .1, c .before .pre .2, refl, length-replicate 42112 z, length-replicate 22656 z)
-
-sub-block : tie.Need-sub-block Inv-loop μ-loop
-sub-block c = omega arith
-
-part-input-start : tie.Need-part-input-start Inv-loop μ-loop
-part-input-start c = omega arith
+    (c .before .before .before .pre .0, c .before .before .before .pre .1, c .before .before .before .pre .2, refl, length-replicate 42112 z, length-replicate 22656 z, length-replicate mostNodes z, length-replicate 14896 z, held-zero (sizesOf (c .before .before .before .args .start .plan)) 14896 0 (c .size .result - 0))
 
 part-input-end : tie.Need-part-input-end Inv-loop μ-loop
-part-input-end c = omega (arith, c .before .line-size .ensures, shape-of-accepted (c .before .before .args .start .plan) (c .before .before .pre .0) .sensors-le, c .loop .inv .4)
+part-input-end c = omega (arith, c .before .before .before .line-size .ensures, shape-of-accepted (c .before .before .before .before .args .start .plan) (c .before .before .before .before .pre .0) .sensors-le, c .loop .inv .4)
 
-sub-block-2 : tie.Need-sub-block-2 Inv-loop μ-loop
-sub-block-2 c = omega arith
+-- the fault bytes of the run's plan lie in the buffer
+bytes-fit : (p : Plan) {s : Sizes} {n len : ℕ} → accepted p ≡ true → {r : ℕ} → s ≡ numbersOf p r → n ≡ faultsSize s → len ≡ 14896 → (n ≡ faultsSize (sizesOf p)) × (n ≤ len)
+bytes-fit p {s} {n} {len} a {r} e f l =
+    let same : n ≡ faultsSize (sizesOf p) = f ∙ ap faultsSize e in
+    (same, omega (arith, most-enough (sizesOf p) (small-of-shape p (shape-of-accepted p a))))
 
-part-out-start : tie.Need-part-out-start Inv-loop μ-loop
-part-out-start c = omega arith
+part-faults-end : tie.Need-part-faults-end Inv-loop μ-loop
+part-faults-end c = bytes-fit (c .before .before .before .before .before .before .args .start .plan) (c .before .before .before .before .before .before .pre .0) (c .before .before .before .before .numbers-of .ensures) (c .before .before .before .size .ensures) (c .before .before .loop .inv .7) .1
 
 part-out-end : tie.Need-part-out-end Inv-loop μ-loop
-part-out-end c = omega (arith, c .before .loop .inv .5)
+part-out-end c = omega (arith, c .before .before .before .loop .inv .5)
 
 block-requires : tie.Need-block-requires Inv-loop μ-loop
 block-requires c κs =
-    let l = c .before .before .loop in
-    let size = c .before .before .before .line-size in
-    let h = shape-of-accepted (c .before .before .before .before .args .start .plan) (c .before .before .before .before .pre .0) in
+    let l = c .before .before .before .before .loop in
+    let a = c .before .before .before .before .before .before .before .before .args in
+    let size = c .before .before .before .before .before .before .before .line-size in
+    let h = shape-of-accepted (a .start .plan) (c .before .before .before .before .before .before .before .before .pre .0) in
     let p = shape-of-accepted (l .run .plan) (l .inv .0) in
-    let same : l .run .plan .sensors ≡ c .before .before .before .before .args .start .plan .sensors = ap (λ (q : Plan). q .sensors) (l .inv .3) in
+    let same : l .run .plan .sensors ≡ a .start .plan .sensors = ap (λ (q : Plan). q .sensors) (l .inv .3) in
     let n : length (take (128 * size .result - 0) (l .input)) ≡ 128 * size .result = front-length (l .input) refl (omega (arith, size .ensures, h .sensors-le, l .inv .4)) in
     let m : length (take 22656 (l .out)) ≡ 22656 = length-take-le 22656 (l .out) (omega (arith, l .inv .5)) in
-    (l .inv .0, l .inv .1, l .inv .2, omega (arith, n, size .ensures), omega (arith, n, size .ensures, same), omega (arith, m, p .actuators-le))
+    let b = bytes-fit (a .start .plan) (c .before .before .before .before .before .before .before .before .pre .0) (c .before .before .before .before .before .before .numbers-of .ensures) (c .before .before .before .before .before .size .ensures) (l .inv .7) in
+    let f : length (take (c .before .before .before .before .before .size .result - 0) (l .faults)) ≡ faultsSize (sizesOf (l .run .plan)) = front-length (l .faults) refl (b .1) ∙ b .0 ∙ ap (λ (q : Plan). faultsSize (sizesOf q)) (sym (l .inv .3)) in
+    (l .inv .0, l .inv .1, l .inv .2, omega (arith, n, size .ensures), omega (arith, n, size .ensures, same), l .inv .6, f, l .inv .8, omega (arith, m, p .actuators-le))
 
 returns : tie.Need-returns Inv-loop μ-loop
 returns c = tt
 
 loop-less : tie.Need-loop-less Inv-loop μ-loop
-loop-less c = let b = c .before .before .before .before .before .block in omega (arith, b .ensures .4, b .ensures .5 (not-false _ (c .before .if1 .left)))
+loop-less c = let b = c .before .before .before .before .before .before .block in omega (arith, b .ensures .7, b .ensures .8 (not-false _ (c .before .if1 .left)))
+
+-- a front that comes back as it was lent
+front-back : (l part rest : List ℕ) (k n : ℕ) → length part ≡ length (take k l) → k ≡ n → n ≤ length l → take k (part ++ rest) ≡ part
+front-back l part rest k n e z f = take-at part rest k (e ∙ length-take-le k l (omega arith))
 
 loop-again : tie.Need-loop-again Inv-loop μ-loop
 loop-again c =
-    let l = c .before .before .before .before .before .before .before .before .loop in
-    let b = c .before .before .before .before .before .block in
-    (ap accepted (b .ensures .2) ∙ l .inv .0, b .ensures .3 ∙ l .inv .1 ∙ ap period (sym (b .ensures .2)), b .ensures .4, b .ensures .2 ∙ l .inv .3, length-front (l .input) (b .last .1 .1 .0) (128 * c .before .before .before .before .before .before .before .before .before .line-size .result - 0) (b .ensures .0) ∙ l .inv .4, length-front (l .out) (b .last .1 .1 .1 .0) 22656 (b .ensures .1) ∙ l .inv .5)
+    let l = c .before .before .before .before .before .before .before .before .before .before .before .loop in
+    let b = c .before .before .before .before .before .before .block in
+    let k = c .before .before .before .before .before .before .before .before .before .before .before .before .size .result in
+    let fit = bytes-fit (c .before .before .before .before .before .before .before .before .before .before .before .before .before .before .before .args .start .plan) (c .before .before .before .before .before .before .before .before .before .before .before .before .before .before .before .pre .0) (c .before .before .before .before .before .before .before .before .before .before .before .before .before .numbers-of .ensures) (c .before .before .before .before .before .before .before .before .before .before .before .before .size .ensures) (l .inv .7) in
+    let part : List ℕ = b .last .1 .1 .1 .1 .0 in
+    let rest : List ℕ = drop (k - 0) (l .faults) in
+    let back : take (k - 0) (part ++ rest) ≡ part = front-back (l .faults) part rest (k - 0) k (b .ensures .2) (omega arith) (fit .1) in (
+      ap accepted (b .ensures .5) ∙ l .inv .0,
+      b .ensures .6 ∙ l .inv .1 ∙ ap period (sym (b .ensures .5)),
+      b .ensures .7,
+      b .ensures .5 ∙ l .inv .3,
+      length-front (l .input) (b .last .1 .1 .0) (128 * c .before .before .before .before .before .before .before .before .before .before .before .before .before .before .line-size .result - 0) (b .ensures .0) ∙ l .inv .4,
+      length-front (l .out) (b .last .1 .1 .1 .1 .1 .0) 22656 (b .ensures .4) ∙ l .inv .5,
+      b .ensures .1,
+      length-front (l .faults) (b .last .1 .1 .1 .1 .0) (k - 0) (b .ensures .2) ∙ l .inv .7,
+      rw (back, b .ensures .5) (b .ensures .3),
+    )
 
 pub follow-spec : {M : Type 1} → statement M
 follow-spec =
@@ -82,12 +114,17 @@ follow-spec =
     μ-loop
     line-size-requires
     mul-size
+    (λ c κs. search needs)
+    size-requires
     loop-holds
-    sub-block
-    part-input-start
+    (λ c. omega arith)
+    (λ c. omega arith)
     part-input-end
-    sub-block-2
-    part-out-start
+    (λ c. omega arith)
+    (λ c. omega arith)
+    part-faults-end
+    (λ c. omega arith)
+    (λ c. omega arith)
     part-out-end
     block-requires
     returns

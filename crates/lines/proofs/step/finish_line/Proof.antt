@@ -1,51 +1,71 @@
--- `lines::step::finish_line` meets its contract.
-use mathlib.Core.Path.{_≡_, refl, sym, _∙_}
+-- `lines::step::finish_line` meets its contract: the frame on rows, and its line.
+use mathlib.Core.Path.{refl, sym, ap, _∙_}
 use mathlib.Core.List.{List}
-use Prim.Native.Nat.{ℕ, _-_}
-use native.Mathlib.Omega.{arith}
-use lib.ListN.{length, take, replicate}
+use Prim.Native.Nat.{ℕ, _≤_}
+use lib.ListN.{replicate}
 use borrow.Author.Needs.{needs}
+use Rattle.plan.specs.declared.Sizes.{Sizes}
 use Rattle.plan.specs.Limits.{mostActuators}
 use Rattle.plan.proofs.AcceptedLaws.{shape-of-accepted}
+use Rattle.row_frame.proofs.FrameLaws.{sizes-small}
+use Rattle.lines.specs.Line.{printedSize}
+use Rattle.lines.specs.Listing.{singleNext}
 use Rattle.lines.proofs.StepLaws.{front-length}
-use Rattle.lines.proofs.RowsLaws.{agreeing-is, working-is, rows-next, line-is, planes-read}
+use Rattle.lines.proofs.RowsLaws.{rows-next, planes-read, working-is, same-rows, line-is}
 use Rattle.lines.proofs.step.finish_line.Statement.{statement}
 use Rattle.lines.proofs.step.finish_line.Tie as tie
 
-finish-requires : tie.Need-finish-requires
-finish-requires c κs = let a = c .before .before .before .before .before .before .before .before .before .args in
-    let q = c .before .before .before .before .before .before .before .before .before .pre in
+working-requires : tie.Need-working-requires
+working-requires c κs = sizes-small _ (c .before .before .before .before .before .before .pre .0) _ (c .before .before .before .before .before .before .pre .1) .0 .nodes
+
+part-planes-end : tie.Need-part-planes-end
+part-planes-end c = sizes-small _ (c .before .before .before .before .before .before .before .before .before .before .pre .0) _ (c .before .before .before .before .before .before .before .before .before .before .pre .1) .0 .actuators
+
+frame-requires : tie.Need-frame-requires
+frame-requires c κs =
+    let q = c .before .before .before .before .before .before .before .before .before .before .before .pre in
     let zeros : List ℕ = replicate mostActuators 0 in
-    let size : length (take (a .actuators - 0) zeros) ≡ a .actuators = front-length zeros refl (omega (arith, q .9)) in
-    (q .0, q .1, q .2, q .3, q .4, q .5, q .6, q .7, q .8, omega (arith, size, q .9), (λ i l. q .10 i (omega (arith, size))))
+    let l : c .before .before .before .before .before .before .before .before .before .before .before .args .s .actuators ≤ mostActuators = sizes-small _ (q .0) _ (q .1) .0 .actuators in
+    (q .0, q .1, search needs, q .2, q .3, q .4, q .5, front-length zeros refl l ∙ ap (λ (t : Sizes). t .actuators) (q .1))
+
+agreeing-requires : tie.Need-agreeing-requires
+agreeing-requires c κs =
+    let h = sizes-small _ (c .before .before .before .before .before .before .before .before .before .before .before .before .before .before .before .before .before .before .before .pre .0) _ (c .before .before .before .before .before .before .before .before .before .before .before .before .before .before .before .before .before .before .before .pre .1) .0 in
+    (search needs, search needs, h .nodes, h .cells)
+
+write-frame-requires : tie.Need-write-frame-requires
+write-frame-requires c κs =
+    let q = c .before .before .before .before .before .before .before .before .before .before .before .before .before .before .before .before .before .before .before .before .before .before .pre in
+    (sizes-small _ (q .0) _ (q .1) .0 .actuators, q .6 ∙ ap (λ (t : Sizes). printedSize (t .actuators)) (sym (q .1)))
 
 returns : tie.Need-returns
-returns c = let a = c .before .before .before .before .before .before .before .before .before .before .before .before .before .before .before .before .before .before .before .before .before .before .before .args in
-    let q = c .before .before .before .before .before .before .before .before .before .before .before .before .before .before .before .before .before .before .before .before .before .before .before .pre in
-    let zeros : List ℕ = replicate mostActuators 0 in
-    let size : length (take (a .actuators - 0) zeros) ≡ a .actuators = front-length zeros refl (omega (arith, q .9)) in
-    λ p sys single sensors lent n e ready.
-    let f = c .before .before .before .before .before .before .before .before .before .before .before .before .before .finish .ensures p sys single sensors lent e (size ∙ sym n) ready in
-    let g = rows-next p sys single sensors (a .mask) (a .fill) (f .0) in
-    let s = shape-of-accepted p (lent .accept) in (
+unfolding singleNext
+returns c =
+    let a = c .before .before .before .before .before .before .before .before .before .before .before .before .before .before .before .before .before .before .before .before .before .before .before .before .before .args in
+    let q = c .before .before .before .before .before .before .before .before .before .before .before .before .before .before .before .before .before .before .before .before .before .before .before .before .before .pre in
+    let h = shape-of-accepted (a .plan) (q .0) in
+    λ sys x rows hold.
+    let f = c .before .before .before .before .before .before .before .before .before .before .before .before .before .frame .ensures .0 sys rows in
+    let g = rows-next (a .plan) (a .s) (q .1) sys (a .sensors .now) (a .mask) x (a .faults .now) hold (f .0) in (
       g,
-      line-is p sys single sensors (a .mask) (a .fill) (a .frame) n (c .before .before .write-frame .ensures)
-          (c .before .before .before .before .before .before .before .before .before .before .before .before .before .before .before .before .before .before .working .ensures ∙ working-is p sys (a .mask) (a .fill) sensors (a .good .now) (ready .good-is) (lent .nodes-are) e)
-          (c .before .before .before .before .before .agreeing .ensures ∙ agreeing-is p _ _ _ _ _ g (s .nodes-high) (lent .nodes-are) (lent .cells-are))
-          (planes-read p sys sensors (a .mask) (a .fill) zeros _ n refl (q .9) (f .1)),
+      c .before .before .before .before .before .before .before .before .before .before .before .before .before .frame .ensures .1,
+      line-is (a .plan) (a .s) (q .1) sys (a .sensors .now) (a .mask) x _ (a .frame) (c .before .before .write-frame .ensures)
+          (c .before .before .before .before .before .before .before .before .before .before .before .before .before .before .before .before .before .before .working .ensures ∙ working-is (a .plan) (a .s) (q .1) sys (a .sensors .now) (a .mask) x (a .good .now) (rows .good-is))
+          (c .before .before .before .before .before .agreeing .ensures ∙ same-rows (a .plan) (a .s) (q .1) sys (a .sensors .now) (a .mask) x _ _ _ _ (h .nodes-high) g (c .before .before .before .before .before .before .before .before .before .before .before .before .before .frame .ensures .1))
+          (planes-read (a .plan) (a .s) (q .1) sys (a .sensors .now) (a .mask) x (a .faults .now) hold (replicate mostActuators 0) _ refl (h .actuators-le) (f .1)),
     )
 
 pub finish-line-spec : {M : Type 1} → statement M
 finish-line-spec =
     tie.close
     (tie.spec
-    (λ c κs. search needs)
+    working-requires
     (λ c. search needs)
     (λ c. search needs)
-    (λ c. search needs)
-    finish-requires
-    (λ c κs. search needs)
-    (λ c κs. search needs)
+    part-planes-end
+    frame-requires
+    agreeing-requires
+    write-frame-requires
     (λ c. search needs)
     (λ c. search needs)
     (λ c. search needs)

@@ -9,9 +9,9 @@ use Rattle.lines.proofs.step.stopped.Tie as tie
 
 returns : tie.Need-returns
 returns c = let a = c .before .before .before .before .args in
-    λ sys single h.
-    ap (λ (y : System). printedWith (a .answer) (a .count) (a .plan) (a .period) y (c .pack-single .result) (a .frame)) (c .before .pack-system .ensures sys single h)
-    ∙ ap (λ (m : Memory). printedWith (a .answer) (a .count) (a .plan) (a .period) sys m (a .frame)) (c .pack-single .ensures ∙ h .single-is)
+    λ sys h.
+    ap (λ (y : System). printedWith (a .answer) (a .count) (a .plan) (a .period) y (c .memory .result) (a .frame)) (c .before .pack .ensures sys h)
+    ∙ ap (λ (m : Memory). printedWith (a .answer) (a .count) (a .plan) (a .period) sys m (a .frame)) (c .memory .ensures)
 
 pub stopped-spec : {M : Type 1} → statement M
 stopped-spec = tie.close (tie.spec (λ c κs. search needs) (λ c κs. search needs) returns)

@@ -9,7 +9,6 @@ use Rattle.array.specs.Index.{howMany}
 use Rattle.array.proofs.IndexLaws.{howMany-none}
 use Rattle.plan.specs.Limits.{mostNodes}
 use Rattle.array.proofs.LoopLaws.{counted-hit, counted-miss, counted-all}
-use Rattle.counts.proofs.CountLaws.{same}
 use Rattle.rows.specs.Rows.{sameRow}
 use Rattle.rows.proofs.step.agreeing.Statement.{statement}
 use Rattle.rows.proofs.step.agreeing.Tie as tie

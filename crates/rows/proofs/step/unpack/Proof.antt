@@ -18,20 +18,20 @@ abbrev μ-loop : tie.MeasureT-loop
 μ-loop counters₀ cells₀ system j₀ counters cells j = mostNodes - j
 
 loop-holds : tie.Need-loop-holds Inv-loop μ-loop
-loop-holds c = (search needs, search needs, search needs, unpacked-none (c .before .before .before .before .before .before .before .before .before .args .t1 .memories) (c .before .before .before .before .put-memory .last .1 .1 .0) (c .before .before .before .before .put-memory .last .1 .1 .1 .0))
+loop-holds c = (search needs, search needs, search needs, unpacked-none (c .before .before .args .t1 .memories) (c .before .before .args .counters .now) (c .before .before .args .cells .now))
 
 loop-again : tie.Need-loop-again Inv-loop μ-loop
-loop-again c = let a = c .before .before .before .before .before .before .before .before .before .before .before .before .before .before .before .before .before .before .before .args in
+loop-again c = let a = c .before .before .before .before .before .before .before .before .before .before .before .before .args in
     let l = c .before .before .before .before .before .before .before .before .before .loop in
     let n : length (a .t1 .memories) ≡ mostNodes = search (needs, length-mapped) in
-    (search needs, search needs, search needs, unpacked-next (a .t1 .memories) (c .before .before .before .before .before .before .before .before .before .before .before .before .before .before .put-memory .last .1 .1 .0) (c .before .before .before .before .before .before .before .before .before .before .before .before .before .before .put-memory .last .1 .1 .1 .0) (l .j) (l .inv .3) (c .before .before .before .before .put-memory2 .ensures) (any-default (a .t1 .memories) (l .j) _ _ (omega (arith, c .before .before .before .before .before .before .before .before .loop-test .taken))))
+    (search needs, search needs, search needs, unpacked-next (a .t1 .memories) (a .counters .now) (a .cells .now) (l .j) (l .inv .3) (c .before .before .before .before .put-memory .ensures) (any-default (a .t1 .memories) (l .j) _ _ (omega (arith, c .before .before .before .before .before .before .before .before .loop-test .taken))))
 
 returns : tie.Need-returns Inv-loop μ-loop
-returns c = let a = c .before .before .before .before .before .before .before .before .before .before .before .args in
+returns c = let a = c .before .before .before .before .args in
     let l = c .before .loop in
     let n : length (a .t1 .memories) ≡ mostNodes = search (needs, length-mapped) in
     let e : l .j ≡ mostNodes = omega arith in
-    rows-unpacked (a .t1) n (l .inv .3) e (c .before .before .before .before .before .before .put-memory .ensures .here)
+    rows-unpacked (a .t1) n (l .inv .3) e
 
 pub unpack-spec : {M : Type 1} → statement M
 unpack-spec =
@@ -39,7 +39,6 @@ unpack-spec =
     (tie.spec
     Inv-loop
     μ-loop
-    (λ c κs. search needs)
     loop-holds
     (λ c. search needs)
     (λ c. search needs)

@@ -1,2 +1,0 @@
-// What all nodes tell each other in a frame under faults, and what they vote from it.
-pub mod step;

@@ -1,3 +1,0 @@
-pub mod SizeLaws
-pub mod MailLaws
-pub mod GoodLaws

@@ -1,0 +1,84 @@
+-- `mailbox::step::vote_with` meets its contract: the loop has voted the first c cells.
+use mathlib.Core.Path.{_≡_, sym, _∙_}
+use mathlib.Core.List.{[]}
+use mathlib.Core.Logic.{⊎-elim}
+use Prim.Native.Nat.{_-_, _*_, _≤_, _<_}
+use native.Mathlib.Omega.{arith}
+use lib.ListN.{length}
+use borrow.Author.Needs.{needs}
+use Rattle.array.specs.Index.{fill}
+use Rattle.array.proofs.PlacesLaws.{fill-none}
+use Rattle.array.proofs.LoopLaws.{stored-all}
+use Rattle.plan.specs.Limits.{mostNodes, mostFrames, mostCells}
+use Rattle.memory.specs.Size.{binBytes}
+use Rattle.memory.proofs.StepLaws.{lent, cellAfter, counter-voted, cell-voted, cell-kept, memory-voted, voted-lent}
+use Rattle.mailbox.proofs.step.vote_with.Statement.{statement}
+use Rattle.mailbox.proofs.step.vote_with.Tie as tie
+
+abbrev Inv-loop : tie.InvT-loop
+Inv-loop voted nodes frames count mailbox counter frame cells₀ c₀ cells c =
+    (c ≤ count) × (count ≤ mostCells) × (frame < mostFrames) × (nodes ≤ mostNodes) × (length mailbox ≡ nodes * binBytes count)
+    × (cells ≡ fill (cellAfter (lent nodes frames count 0 voted []) cells₀ mailbox frame) c cells₀)
+
+abbrev μ-loop : tie.MeasureT-loop
+μ-loop voted nodes frames count mailbox counter frame cells₀ c₀ cells c = count - c
+
+counters-requires : tie.Need-counters-requires Inv-loop μ-loop
+counters-requires c κs = (c .before .pre .0, c .before .pre .3, omega (arith, c .before .pre .4))
+
+loop-holds : tie.Need-loop-holds Inv-loop μ-loop
+loop-holds c = (search needs, c .before .before .before .before .before .before .before .pre .3, omega (arith, c .before .before .before .before .before .before .before .pre .2, c .before .frame-before .ensures .1), c .before .before .before .before .before .before .before .pre .0, c .before .before .before .before .before .before .before .pre .4, sym (fill-none _ _))
+
+cells-at-requires : tie.Need-cells-at-requires Inv-loop μ-loop
+cells-at-requires c κs = (c .before .before .before .loop .inv .3, c .before .before .before .loop .inv .1, c .before .before .loop-test .taken, omega (arith, c .before .before .before .loop .inv .4))
+
+loop-again : tie.Need-loop-again Inv-loop μ-loop
+loop-again c =
+    let l = c .before .before .before .loop in
+    let i = l .inv in
+    let a = c .before .before .before .before .before .before .before .before .before .before .before .args in
+    let p = lent (a .nodes) (a .frames) (a .count) 0 (a .voted .now) [] in
+    let box = a .mailbox .now in
+    let cells = a .memory .cells in
+    let g = c .before .before .before .before .before .frame-before .result in
+    ⊎-elim
+    (λ w. (search needs, i .1, i .2, i .3, i .4, w .5 ∙ cell-voted p box cells g (l .c) _ (i .5) (sym (c .before .is-voted .ensures) ∙ w .0 .taken) (w .1 .ensures) (w .3 .ensures) (w .4 .ensures)))
+    (λ w. (search needs, i .1, i .2, i .3, i .4, w .1 ∙ cell-kept p cells box g (l .c) (i .5) (sym (c .before .is-voted .ensures) ∙ w .0 .left)))
+    (c .if1 .came)
+
+returns : tie.Need-returns Inv-loop μ-loop
+returns c =
+    let i = c .before .loop .inv in
+    let a = c .before .before .before .before .before .before .before .before .before .args in
+    let p = lent (a .nodes) (a .frames) (a .count) 0 (a .voted .now) [] in
+    let box = a .mailbox .now in
+    λ q v n f k.
+    memory-voted p (a .memory) box
+    (counter-voted p box (a .memory) _ (c .before .before .before .before .before .before .before .counters .ensures) (c .before .before .before .before .before .majority .ensures) (c .before .before .before .before .or-own .ensures))
+    (c .before .before .before .frame-before .ensures .0)
+    (stored-all _ _ _ (i .5) (omega arith))
+    ∙ voted-lent q (a .memory) v f k box n
+
+pub vote-with-spec : {M : Type 1} → statement M
+vote-with-spec =
+    tie.close
+    (tie.spec
+    Inv-loop
+    μ-loop
+    counters-requires
+    (λ c κs. search needs)
+    (λ c κs. search needs)
+    (λ c κs. search needs)
+    loop-holds
+    (λ c κs. search needs)
+    cells-at-requires
+    (λ c κs. search needs)
+    (λ c. search needs)
+    (λ c. search needs)
+    (λ c κs. search needs)
+    (λ c. search needs)
+    (λ c. search needs)
+    (λ c. search needs)
+    (λ c. search needs)
+    loop-again
+    returns)

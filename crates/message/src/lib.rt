@@ -1,2 +1,0 @@
-// What one node sends.
-pub mod step;

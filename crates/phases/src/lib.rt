@@ -1,2 +1,0 @@
-// The phases of a frame, one after another: compute, broadcast, vote, sync.
-pub mod step;

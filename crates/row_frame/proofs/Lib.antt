@@ -1,0 +1,3 @@
+pub mod SpoilLaws
+pub mod PutLaws
+pub mod FrameLaws

@@ -1,0 +1,26 @@
+-- `row_frame::step::close` meets its contract: the phases one after another.
+use borrow.Author.Needs.{needs}
+use Rattle.rows.proofs.RowLaws.{through-then}
+use Rattle.row_frame.proofs.step.close.Statement.{statement}
+use Rattle.row_frame.proofs.step.close.Tie as tie
+
+planes-requires : tie.Need-planes-requires
+planes-requires c κs =
+    let q = c .before .before .before .before .before .before .before .before .before .before .before .before .before .before .before .before .before .before .before .before .pre in
+    (q .0, q .1, q .5, search needs, q .8, q .9)
+
+returns : tie.Need-returns
+returns c = (through-then (c .before .before .before .before .before .before .before .before .before .before .before .before .before .before .before .before .before .before .vote .ensures) (c .before .before .before .before .before .before .before .before .before .before .before .spoil .ensures), c .before .before .before .before .planes .ensures, c .counts .ensures, λ i. c .before .before .before .before .before .before .before .before .before .before .before .before .before .before .before .before .before .before .before .before .before .before .slice-known2 .given i .fits)
+
+pub close-spec : {M : Type 1} → statement M
+close-spec =
+    tie.close
+    (tie.spec
+    (λ c κs. search needs)
+    (λ c κs. search needs)
+    planes-requires
+    (λ c κs. search needs)
+    (λ c. search needs)
+    (λ c. search needs)
+    (λ c. search needs)
+    returns)

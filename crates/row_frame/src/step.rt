@@ -1,0 +1,187 @@
+// A frame of the whole system on rows. Row 0 is the single controller's, row j + 1 node j's.
+ghost use mathlib.Core.Path.{_≡_};
+ghost use mathlib.Core.Bool.{true, cond};
+ghost use mathlib.Core.Option.{Option·getD};
+ghost use Prim.Native.Nat.{ℕ, _+_, _<_, _≤_, _^_};
+ghost use lib.Dec.{eqb};
+ghost use lib.ListN.{length, getD};
+ghost use Rattle.array.specs.Index.{fill as filledWith};
+ghost use Rattle.array.specs.Word.{be};
+ghost use Rattle.plan.specs.Limits.{mostNodes, mostFrames, mostCells, mostActuators};
+ghost use Rattle.plan.specs.Accepted.{accepted};
+ghost use Rattle.plan.specs.Sizes.{sizesOf};
+ghost use Rattle.ballot.specs.Plane.{plane as planeOf};
+ghost use Rattle.ballot.specs.Code.{Told};
+ghost use Rattle.memory.specs.Size.{patternSize, cellAt};
+ghost use Rattle.memory.specs.Node.{computed};
+ghost use Rattle.system.specs.Counts.{goodAfter};
+ghost use Rattle.system.specs.Frame.{systemAfter, placeAfter};
+ghost use Rattle.faults.specs.Code.{Small, Parts};
+ghost use Rattle.rows.specs.Rows.{rowCount, wordCount, memoryIn, Rows, Through};
+ghost use Rattle.row_frame.specs.Code.{spoiled, closedRow, putFrom};
+use plan::Plan;
+use plan::Sizes;
+use system::System;
+
+// ---- bad nodes
+
+fn fault_row(row: &mut [u64], count: usize, faults: &[u8], at: usize)
+    requires { ⌜ (count ≤ mostCells) × (count ≤ length (now row)) × (at + cellAt count ≤ length (now faults)) ⌝ }
+    ensures { λ _. ⌜ now (row .exit) ≡ filledWith (λ c. be patternSize (now (faults .entry)) (at + cellAt c)) count (now (row .entry)) ⌝ }
+{
+    let mut c: usize = 0;
+    while c < count {
+        row[c] = array::step::read8(faults, at + memory::step::cell_at(c));
+        c += 1;
+    }
+}
+
+// The memories that the faults leave.
+fn spoil(s: Sizes, mask: u64, faults: &[u8], counters: &mut [u16], cells: &mut [u64])
+    requires { ⌜ Small s × Parts s mask (length (now faults)) × (length (now counters) ≡ rowCount) × (length (now cells) ≡ wordCount) ⌝ }
+    ensures { λ _. ⌜ Through (s .nodes + 1) (spoiled s mask (now (faults .entry))) (now (counters .entry)) (now (cells .entry)) (now (counters .exit)) (now (cells .exit)) ⌝ }
+{
+    let nodes = s.nodes;
+    let count = s.cells;
+    let mut j: usize = 0;
+    while j < nodes {
+        if counts::step::is_bad(mask, j) {
+            let from = faults::step::part_at(s, j);
+            let at = Plan::CELLS * (j + 1);
+            counters[j + 1] = array::step::read2(faults, from);
+            fault_row(&mut cells[at..at + Plan::CELLS], count, faults, from);
+        }
+        j += 1;
+    }
+}
+
+// ---- what is put out
+
+// What the nodes put out for an actuator, whose cell is `cell`.
+fn put_out(
+    s: Sizes,
+    mask: u64,
+    faults: &[u8],
+    cells: &[u64],
+    cell: usize,
+    a: usize,
+) -> [u64; System::NODES]
+    requires { ⌜ Small s × Parts s mask (length (now faults)) × (length (now cells) ≡ wordCount) × (cell < mostCells) × (a < s .actuators) ⌝ }
+    ensures { λ r. ⌜ Told (putFrom s mask (now (faults .entry)) (now (cells .entry)) cell a) (s .nodes) r ⌝ }
+{
+    let nodes = s.nodes;
+    let mut values = [0u64; System::NODES];
+    let mut j: usize = 0;
+    while j < nodes {
+        if counts::step::is_bad(mask, j) {
+            values[j] = array::step::read8(faults, faults::step::setpoint_at(s, j, a));
+        } else {
+            values[j] = cells[Plan::CELLS * (j + 1) + cell];
+        }
+        j += 1;
+    }
+    values
+}
+
+fn planes<'a>(
+    table: &'a [usize; Plan::ACTUATORS],
+    s: Sizes,
+    mask: u64,
+    faults: &[u8],
+    cells: &'a [u64],
+    place: &mut [u64],
+)
+    requires { ⌜ Small s × (0 < s .nodes) × Parts s mask (length (now faults)) × (length (now cells) ≡ wordCount) × (length (now place) ≡ s .actuators) × ((a : ℕ) → a < s .actuators → getD (now table) a 0 < mostCells) ⌝ }
+    ensures { λ _. ⌜ now (place .exit) ≡ filledWith (λ a. Option·getD (planeOf (putFrom s mask (now (faults .entry)) (now (cells .entry)) (getD (now (table .entry)) a 0) a) (s .nodes)) 0) (s .actuators) (now (place .entry)) ⌝ }
+{
+    let actuators = s.actuators;
+    let nodes = s.nodes;
+    let mut a: usize = 0;
+    while a < actuators {
+        let cell = table[a];
+        let values = put_out(s, mask, faults, cells, cell, a);
+        place[a] = ballot::step::plane(&values, nodes);
+        a += 1;
+    }
+}
+
+// ---- the frame
+
+// A frame after its tasks: vote, faults, setpoints, good counts.
+fn close<'a>(
+    voted: &'a [bool; Plan::VOTES],
+    table: &'a [usize; Plan::ACTUATORS],
+    s: Sizes,
+    mask: u64,
+    faults: &[u8],
+    counters: &mut [u16],
+    cells: &mut [u64],
+    good: &mut [u16; System::NODES],
+    place: &mut [u64],
+)
+    requires { ⌜ Small s × (0 < s .nodes) × (0 < s .frames) × (s .frames ≤ mostFrames) × (s .period < 65536) × Parts s mask (length (now faults)) × (length (now counters) ≡ rowCount) × (length (now cells) ≡ wordCount) × (length (now place) ≡ s .actuators) × ((a : ℕ) → a < s .actuators → getD (now table) a 0 < mostCells) ⌝ }
+    ensures { λ _. ⌜ Through (s .nodes + 1) (closedRow (now (voted .entry)) s mask (now (faults .entry)) (now (counters .entry)) (now (cells .entry))) (now (counters .entry)) (now (cells .entry)) (now (counters .exit)) (now (cells .exit)) × (now (place .exit) ≡ filledWith (λ a. Option·getD (planeOf (putFrom s mask (now (faults .entry)) (now (cells .exit)) (getD (now (table .entry)) a 0) a) (s .nodes)) 0) (s .actuators) (now (place .entry))) × (now (good .exit) ≡ filledWith (goodAfter (s .period) mask (now (good .entry))) (s .nodes) (now (good .entry))) × ((i : ℕ) → getD (now (cells .entry)) i 0 < 2 ^ 64) ⌝ }
+{
+    row_vote::step::vote(voted, s, mask, faults, counters, cells);
+    spoil(s, mask, faults, counters, cells);
+    planes(table, s, mask, faults, cells, place);
+    counts::step::counts(good, s.nodes, mask, s.period);
+}
+
+// The frame of the system that the rows hold, from row `first` on: the single controller's row 0 is computed only where first is 0. Tasks stand by
+// frame, so a row in the frame of the one before it begins where that one did.
+pub fn frame(
+    plan: Plan,
+    s: Sizes,
+    first: usize,
+    sensors: &[u64],
+    mask: u64,
+    faults: &[u8],
+    counters: &mut [u16],
+    cells: &mut [u64],
+    good: &mut [u16; System::NODES],
+    place: &mut [u64],
+)
+    requires { ⌜ (accepted plan ≡ true) × (s ≡ sizesOf plan) × (first ≤ 1) × (length (now sensors) ≡ plan .sensors) × Parts s mask (length (now faults)) × (length (now counters) ≡ rowCount) × (length (now cells) ≡ wordCount) × (length (now place) ≡ plan .actuators) ⌝ }
+    ensures { λ _. ⌜ ((sys : System) → Rows sys (now (counters .entry)) (now (cells .entry)) (now (good .entry)) → Rows (systemAfter plan sys (now (sensors .entry)) mask (now (faults .entry))) (now (counters .exit)) (now (cells .exit)) (now (good .exit)) × (now (place .exit) ≡ placeAfter plan sys (now (sensors .entry)) mask (now (faults .entry)) (now (place .entry)))) × (memoryIn (now (counters .exit)) (now (cells .exit)) 0 ≡ cond (eqb first 0) (computed plan (now (sensors .entry)) (memoryIn (now (counters .entry)) (now (cells .entry)) 0)) (memoryIn (now (counters .entry)) (now (cells .entry)) 0)) ⌝ }
+{
+    let rows = plan.nodes + 1;
+    let frames = plan.frames;
+    let count = plan.task_count;
+    let mut last: usize = 0;
+    let mut skipped: usize = 0;
+    let mut r = first;
+    while r < rows {
+        let g = counters[r] as usize % frames;
+        let at = Plan::CELLS * r;
+        skipped = task::step::begin(last, skipped, g);
+        last = g;
+        let mut k = skipped;
+        while k < count {
+            let frame = plan.tasks[k].frame;
+            if g < frame {
+                break;
+            }
+            if frame == g {
+                let t = plan.tasks[k];
+                task::step::run_task_in(&mut cells[at..at + Plan::CELLS], t, sensors);
+            } else {
+                skipped = k;
+            }
+            k += 1;
+        }
+        counters[r] = ((g + 1) % frames) as u16;
+        r += 1;
+    }
+    close(
+        &plan.voted,
+        &plan.actuator_cell,
+        s,
+        mask,
+        faults,
+        counters,
+        cells,
+        good,
+        place,
+    );
+}

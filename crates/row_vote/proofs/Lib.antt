@@ -1,0 +1,4 @@
+pub mod PutLaws
+pub mod HeardLaws
+pub mod VoteLaws
+pub mod DecideLaws

@@ -1,0 +1,17 @@
+-- `row_vote::step::decided` meets its contract: with no bad node all words are good ones'.
+use mathlib.Core.Path.{_∙_}
+use borrow.Author.Needs.{needs}
+use Rattle.row_vote.proofs.HeardLaws.{good-alone}
+use Rattle.row_vote.proofs.step.decided.Statement.{statement}
+use Rattle.row_vote.proofs.step.decided.Tie as tie
+
+returns : tie.Need-returns
+returns c =
+    let a = c .before .before .args in
+    c .majority .ensures ∙ good-alone (a .mask) (a .nodes) (a .words .now) (c .before .if1 .taken)
+
+returns-2 : tie.Need-returns-2
+returns-2 c = c .majority2 .ensures ∙ c .before .before .before .good-ones .ensures .1
+
+pub decided-spec : {M : Type 1} → statement M
+decided-spec = tie.close (tie.spec (λ c κs. search needs) returns (λ c κs. search needs) (λ c κs. search needs) returns-2)

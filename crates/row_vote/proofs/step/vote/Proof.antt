@@ -1,0 +1,56 @@
+-- `row_vote::step::vote` meets its contract: the good nodes vote in one frame, or each in its own.
+use mathlib.Core.Path.{_≡_, ap, _∙_}
+use Prim.Native.Nat.{ℕ}
+use native.Mathlib.Omega.{arith}
+use lib.ListN.{getD}
+use borrow.Author.Needs.{needs}
+use Rattle.row_vote.specs.Code.{frameBefore}
+use Rattle.row_vote.proofs.VoteLaws.{frame-agreed, rows-voted}
+use Rattle.row_vote.proofs.step.vote.Statement.{statement}
+use Rattle.row_vote.proofs.step.vote.Tie as tie
+
+vote-one-requires : tie.Need-vote-one-requires
+vote-one-requires c κs = (c .before .before .before .before .before .before .before .before .before .before .before .before .pre .0, c .before .before .before .before .before .before .before .before .before .before .before .before .pre .3, c .before .before .before .before .before .before .before .before .before .before .before .before .pre .5, c .before .before .before .before .before .before .before .frames-before .ensures .1, c .before .before .if1 .taken)
+
+returns : tie.Need-returns
+returns c =
+    let a = c .before .before .before .before .before .before .before .before .before .before .before .before .before .before .before .args in
+    let q = c .before .before .before .before .before .before .before .before .before .before .before .before .before .before .before .pre in
+    let v = c .before .before .before .before .before .before .before .before .vote-counter in
+    rows-voted (a .voted .now) (a .s) (a .mask) (a .faults .now) (q .0 .nodes) (q .0 .cells) (a .counters .now) (a .cells .now) _ (c .before .before .vote-one .last .1 .1 .1 .1 .1 .1 .0) (q .5) (c .before .before .vote-one .kept .1 .1 .1 .1 .1 .1 .0 ∙ q .5)
+    (λ j. getD (c .before .before .before .before .before .before .before .before .before .before .frames-before .result) j 0) (λ i. v .result)
+    (c .before .before .before .before .before .before .before .before .before .before .frames-before .ensures .0)
+    (λ i l t. frame-agreed (a .s) (a .mask) (a .faults .now) (a .counters .now) (v .ensures .0) (c .before .before .before .before .before .if1 .taken) i)
+    (v .ensures .1)
+    (c .before .before .vote-one .ensures)
+
+vote-each-requires : tie.Need-vote-each-requires
+vote-each-requires c κs = (c .before .before .before .before .before .before .before .before .before .before .before .before .before .before .before .pre .0, c .before .before .before .before .before .before .before .before .before .before .before .before .before .before .before .pre .3, c .before .before .before .before .before .before .before .before .before .before .before .before .before .before .before .pre .5, search needs, search needs)
+
+returns-2 : tie.Need-returns-2
+returns-2 c =
+    let a = c .before .before .before .before .before .before .before .before .before .before .before .before .before .before .before .before .before .before .args in
+    let q = c .before .before .before .before .before .before .before .before .before .before .before .before .before .before .before .before .before .before .pre in
+    let v = c .before .before .before .before .before .before .before .before .before .before .before .vote-counter in
+    rows-voted (a .voted .now) (a .s) (a .mask) (a .faults .now) (q .0 .nodes) (q .0 .cells) (a .counters .now) (a .cells .now) _ (c .before .before .vote-each .last .1 .1 .1 .1 .1 .1 .0) (q .5) (c .before .before .vote-each .kept .1 .1 .1 .1 .1 .1 .0 ∙ q .5)
+    (λ j. getD (c .before .before .before .before .before .before .before .before .before .before .before .before .before .frames-before .result) j 0) (λ i. getD (c .before .before .before .before .before .before .frames-before2 .result) i 0)
+    (c .before .before .before .before .before .before .before .before .before .before .before .before .before .frames-before .ensures .0)
+    (λ i l t. c .before .before .before .before .before .before .frames-before2 .ensures .0 i l ∙ ap (frameBefore (a .s .frames)) (v .ensures .1 .here i l (rw t)))
+    (v .ensures .1)
+    (c .before .before .vote-each .ensures)
+
+pub vote-spec : {M : Type 1} → statement M
+vote-spec =
+    tie.close
+    (tie.spec
+    (λ c κs. search needs)
+    (λ c κs. search needs)
+    vote-one-requires
+    (λ c. search needs)
+    (λ c. search needs)
+    returns
+    (λ c κs. search needs)
+    vote-each-requires
+    (λ c. search needs)
+    (λ c. search needs)
+    returns-2)

@@ -1,0 +1,111 @@
+-- The code's own: the vote of all nodes on rows, by what each hears. No definition of document 01 cites these.
+use mathlib.Core.Path.{_≡_}
+use mathlib.Core.Bool.{Bool, true, false, not, cond, _&&_}
+use mathlib.Core.List.{List}
+use mathlib.Core.Option.{Option, none, some, Option·getD}
+use Prim.Native.Nat.{ℕ, zero, suc, _+_, _-_, _%_, _<_}
+use lib.Dec.{ltb}
+use lib.ListN.{length, getD}
+use Rattle.array.specs.Index.{fill}
+use Rattle.array.specs.Bit.{bit}
+use Rattle.plan.specs.declared.Sizes.{Sizes}
+use Rattle.plan.specs.Limits.{mostFrames}
+use Rattle.plan.specs.Known.{votePlace}
+use Rattle.ballot.specs.Majority.{majority, orOwn}
+use Rattle.memory.specs.declared.Memory.{Memory}
+use Rattle.memory.specs.Node.{counterFrom, cellFrom}
+use Rattle.system.specs.Fault.{faultMessageAt}
+use Rattle.rows.specs.Rows.{wordPlace}
+
+-- ---- values stored at places: of the first n, those that are taken
+
+pub record Put (place : ℕ → ℕ) (take : ℕ → Bool) (x : ℕ → ℕ) (n : ℕ) (l l' : List ℕ) : Type 0 where
+  pub here : (j : ℕ) → j < n → take j ≡ true → getD l' (place j) 0 ≡ x j
+  pub others : (i : ℕ) → ((j : ℕ) → j < n → take j ≡ true → i ≡ place j → ⊥) → getD l' i 0 ≡ getD l i 0
+  pub size : length l' ≡ length l
+
+-- ---- what is told
+
+-- the frame before a counter
+abbrev pub frameBefore : ℕ → ℕ → ℕ
+frameBefore frames counter = (counter + frames - 1) % frames
+
+-- whether a cell is voted in a frame, by the table of votes
+abbrev pub votedAt : List Bool → ℕ → ℕ → Bool
+votedAt votes g c = getD votes (votePlace g c) false
+
+abbrev pub isGood : ℕ → ℕ → Bool
+isGood mask j = not (bit mask j)
+
+-- what the good nodes alone tell, of which node j has the word `word j`
+abbrev pub goodOnly : ℕ → (ℕ → ℕ) → ℕ → Option ℕ
+goodOnly mask word j = cond (bit mask j) none (some (word j))
+
+-- what is heard of node j: a good one's word, of a bad one what its fault says
+abbrev pub heardOf : ℕ → (ℕ → Option ℕ) → (ℕ → ℕ) → ℕ → Option ℕ
+heardOf mask fault word j = cond (bit mask j) (fault j) (some (word j))
+
+-- what node j sends of cell c, where it sends in frame `sent j`
+abbrev pub sentWord : List Bool → (ℕ → ℕ) → List ℕ → ℕ → ℕ → ℕ
+sentWord votes sent cells c j = cond (votedAt votes (sent j) c) (getD cells (wordPlace (suc j) c) 0) 0
+
+-- the frame in which all good nodes vote, where their counter is decided; else no frame
+unfoldable pub agreedFrame : ℕ → Option ℕ → ℕ
+agreedFrame frames none = mostFrames
+agreedFrame frames (some x) = cond (ltb x frames) (frameBefore frames x) mostFrames
+
+-- ---- a row after the vote
+
+-- a memory after a vote in which bin j says `counters j` of the counter and `words c j` of cell c
+unfoldable pub votedBy : List Bool → Sizes → (ℕ → Option ℕ) → (ℕ → ℕ → Option ℕ) → Memory → Memory
+votedBy votes s counters words m =
+    record {
+      counter = orOwn (s .frames) (m .counter) (majority counters (s .nodes));
+      cells =
+          fill
+          (λ c. cond (votedAt votes (frameBefore (s .frames) (orOwn (s .frames) (m .counter) (majority counters (s .nodes)))) c)
+          (Option·getD (majority (words c) (s .nodes)) (getD (m .cells) c 0))
+          (getD (m .cells) c 0))
+          (s .cells)
+          (m .cells);
+    }
+
+-- what node i hears of the counters, whose words are `word`, and of cell c; its counter after the vote
+module _ (s : Sizes) (mask : ℕ) (faults : List ℕ) where
+  abbrev pub heardCounter : (ℕ → ℕ) → ℕ → ℕ → Option ℕ
+  heardCounter word i = heardOf mask (λ j. counterFrom faults (faultMessageAt s j i)) word
+
+  abbrev pub heardWord : (ℕ → ℕ) → ℕ → ℕ → ℕ → Option ℕ
+  heardWord word c i = heardOf mask (λ j. cellFrom faults c (faultMessageAt s j i)) word
+
+  unfoldable pub counterAfter : List ℕ → ℕ → ℕ
+  counterAfter counters i =
+      orOwn (s .frames) (getD counters (suc i) 0) (majority (heardCounter (λ j. getD counters (suc j) 0) i) (s .nodes))
+
+-- whether node i, who votes in frame `frame i`, votes on cell c: bad nodes do not vote
+abbrev pub takes : List Bool → ℕ → (ℕ → ℕ) → ℕ → ℕ → Bool
+takes votes mask frame c i = isGood mask i && votedAt votes (frame i) c
+
+module _ (votes : List Bool) (s : Sizes) (mask : ℕ) (faults : List ℕ) where
+  -- node i's cell c where it votes on it
+  unfoldable pub wordAfter : (ℕ → ℕ) → List ℕ → ℕ → ℕ → ℕ
+  wordAfter sent cells c i =
+      Option·getD (majority (heardWord s mask faults (sentWord votes sent cells c) c i) (s .nodes)) (getD cells (wordPlace (suc i) c) 0)
+
+  -- row q after the vote, by the rows before it
+  module _ (counters cells : List ℕ) where
+    abbrev pub sentFrame : ℕ → ℕ
+    sentFrame j = frameBefore (s .frames) (getD counters (suc j) 0)
+
+    unfoldable pub votedRow : ℕ → Memory → Memory
+    votedRow zero m = m
+    votedRow (suc i) m =
+        cond (bit mask i) m
+        (votedBy votes s (heardCounter s mask faults (λ j. getD counters (suc j) 0) i) (λ c. heardWord s mask faults (sentWord votes sentFrame cells c) c i) m)
+
+  -- what stands in row q at column d once the first k columns are voted
+  module _ (sent frame : ℕ → ℕ) (cells : List ℕ) where
+    unfoldable pub votedWord : ℕ → ℕ → ℕ → ℕ
+    votedWord k zero d = getD cells (wordPlace 0 d) 0
+    votedWord k (suc i) d =
+        cond (ltb d k && (ltb i (s .nodes) && takes votes mask frame d i)) (wordAfter sent cells d i) (getD cells (wordPlace (suc i) d) 0)

@@ -1,0 +1,2 @@
+// The vote of all nodes on rows, for any fault bytes.
+pub mod step;

@@ -1,2 +1,0 @@
-// The vote of one node on its mailbox.
-pub mod step;
