@@ -144,11 +144,6 @@ module _ {A : Type 0} (d : A) where
   from-same s t a b zero e = refl
   from-same s t a b (suc n) e = rw (from-same s t a b n (λ i l. e i (omega arith)), e n (omega arith))
 
-  -- a list of n entries is the n entries from its start
-  pub from-all : (s : List A) (n : ℕ) → length s ≡ n → from d s 0 n ≡ s
-  from-all s n e =
-      ext-getD d (from d s 0 n) s (from-length d s 0 n ∙ sym e) (λ i l. from-at s 0 n i (omega (arith, from-length d s 0 n)) ∙ ap (λ (k : ℕ). getD s k d) (let z : 0 + i ≡ i = omega arith in z))
-
   pub from-add : (s : List A) (at m n : ℕ) → from d s at (m + n) ≡ from d s at m ++ from d s (at + m) n
   unfolding from
   from-add s at m zero = let z : m + 0 ≡ m = omega arith in rw z (sym (append-nil (from d s at m)))
@@ -172,35 +167,5 @@ module _ {A : Type 0} (d : A) where
   -- ---- a list of n bins of one size
 
   module _ (w : ℕ) where
-    pub bins-front : (s : List A) (n : ℕ) → joined (λ j. from d s (j * w) w) n ≡ from d s 0 (n * w)
-    unfolding joined from
-    bins-front s zero = rw (zero-mul w)
-    bins-front s (suc n) = let z : 0 + n * w ≡ n * w = omega arith in rw (bins-front s n, suc-mul n w, from-add s 0 (n * w) w, z)
-
-    pub bins-all : (s : List A) (n : ℕ) → length s ≡ n * w → s ≡ joined (λ j. from d s (j * w) w) n
-    bins-all s n e = sym (bins-front s n ∙ from-all s (n * w) e)
-
-    -- a buffer whose bins are known
-    pub bins-are : (s : List A) (n : ℕ) (f : ℕ → List A) → length s ≡ n * w → ((j : ℕ) → j < n → from d s (j * w) w ≡ f j) → s ≡ joined f n
-    bins-are s n f e h = bins-all s n e ∙ joined-same _ f n h
-
     pub bin-of : (f : ℕ → List A) (n j : ℕ) → ((j : ℕ) → length (f j) ≡ w) → j < n → from d (joined f n) (j * w) w ≡ f j
     bin-of f n j e l = from-held w (e j) (joined-holds f w e n j l)
-
--- ---- filled again
-
-pub fill-again : {A : Type 0} (d : A) (f g : ℕ → A) (n : ℕ) (l : List A) → fill f n (fill g n l) ≡ fill f n l
-fill-again d f g n l =
-    ext-getD d (fill f n (fill g n l)) (fill f n l) (long ∙ sym (fill-length f n l))
-    (λ i h.
-    split (ltb i n)
-    (λ t.
-    fill-in f n (fill g n l) i d (ltb-true i n t) (omega (arith, long, fill-length g n l))
-    ∙ sym (fill-in f n l i d (ltb-true i n t) (omega (arith, long))))
-    (λ t.
-    fill-out f n (fill g n l) i d (ltb-false i n t)
-    ∙ fill-out g n l i d (ltb-false i n t)
-    ∙ sym (fill-out f n l i d (ltb-false i n t))))
-  where
-    long : length (fill f n (fill g n l)) ≡ length l
-    long = fill-length f n (fill g n l) ∙ fill-length g n l

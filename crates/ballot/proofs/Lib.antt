@@ -2,4 +2,4 @@ pub mod MajorityLaws
 pub mod ScanLaws
 pub mod PlaneLaws
 pub mod PackedLaws
-pub mod ToldLaws
+pub mod BinLaws

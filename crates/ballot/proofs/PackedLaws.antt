@@ -6,20 +6,16 @@ use mathlib.Core.Option.{Option, none, some}
 use Prim.Native.Nat.{ℕ, _+_, _*_, _≤_, _<_}
 use native.Mathlib.Omega.{arith}
 use native.Mathlib.Numerals.{add-one}
-use lib.ListN.{length, getD, set, replicate}
+use lib.ListN.{length, getD, set}
 use lib.Seq.{getD-set-same, getD-set-other}
 use lib.Dec.{ltb}
 use borrow.Author.Tests.{ltb-true, ltb-false, lt-ltb, le-ltb}
-use Rattle.array.specs.Index.{howMany, fill}
+use Rattle.array.specs.Index.{howMany}
 use Rattle.array.proofs.TestLaws.{split}
-use Rattle.array.proofs.PlacesLaws.{fill-in}
-use Rattle.plan.specs.Limits.{mostNodes}
 use Rattle.ballot.specs.Majority.{holds, holders, majority}
-use Rattle.ballot.specs.Plane.{plane}
 use Rattle.ballot.specs.Code.{packed}
 use Rattle.ballot.proofs.MajorityLaws.{no-some, holders-same, majority-of-few, majority-same, majority-by-holders}
 use Rattle.ballot.proofs.ScanLaws.{holders-hit, holders-miss, holders-past}
-use Rattle.ballot.proofs.PlaneLaws.{plane-same}
 
 module _ (values : List ℕ) (k j : ℕ) where
   pub packed-in : j < k → packed values k j ≡ some (getD values j 0)
@@ -86,16 +82,3 @@ module _ (bin : ℕ → Option ℕ) (values : List ℕ) where
   pub packed-majority : (k n : ℕ) → k ≤ n → Packed bin values k n → majority (packed values k) n ≡ majority bin n
   packed-majority k n l p =
       majority-by-holders (packed values k) bin n (λ v. sym (holders-past (packed values k) k n v l (packed-out values k)) ∙ p v)
-
--- where no bin is silent, the values are the bins
-module _ (f : ℕ → ℕ) (n : ℕ) (values : List ℕ) (l : n ≤ mostNodes) (e : values ≡ fill f n (replicate mostNodes 0)) where
-  read-at : (j : ℕ) → j < n → packed values n j ≡ some (f j)
-  read-at j h =
-      packed-in values n j h
-      ∙ ap some (ap (λ (s : List ℕ). getD s j 0) e ∙ fill-in f n (replicate mostNodes 0) j 0 h (omega arith))
-
-  pub majority-read : majority (packed values n) n ≡ majority (λ j. some (f j)) n
-  majority-read = majority-same (packed values n) (λ j. some (f j)) n read-at
-
-  pub plane-read : plane (packed values n) n ≡ plane (λ j. some (f j)) n
-  plane-read = plane-same (packed values n) (λ j. some (f j)) n read-at

@@ -40,6 +40,6 @@ orOwn frames own none = own
 orOwn frames own (some v) = cond (ltb v frames) v own
 
 -- what the cases of the code's enum say
-abbrev pub valueOf : Voted → Option ℕ
-valueOf (Value v) = some v
-valueOf Nothing = none
+abbrev pub votedValue : Voted → Option ℕ
+votedValue (Value v) = some v
+votedValue Nothing = none

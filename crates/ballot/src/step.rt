@@ -3,7 +3,7 @@ ghost use mathlib.Core.Path.{_≡_};
 ghost use mathlib.Core.Option.{some, Option·getD};
 ghost use Prim.Native.Nat.{_<_, _≤_};
 ghost use Rattle.plan.specs.Limits.{mostNodes, mostFrames};
-ghost use Rattle.ballot.specs.Majority.{holders as holdersOf, majority as majorityOf, orOwn, valueOf};
+ghost use Rattle.ballot.specs.Majority.{holders as holdersOf, majority as majorityOf, orOwn, votedValue};
 ghost use Rattle.ballot.specs.Plane.{plane as planeOf};
 ghost use Rattle.ballot.specs.Code.{packed};
 use super::Voted;
@@ -28,7 +28,7 @@ pub fn holders(values: &[u64; Plan::NODES], k: usize, x: u64) -> usize
 // The value of the first of k bins that more than half of n share.
 pub fn majority(values: &[u64; Plan::NODES], k: usize, n: usize) -> Voted
     requires { ⌜ (k ≤ n) × (n ≤ mostNodes) ⌝ }
-    ensures { λ r. ⌜ valueOf r ≡ majorityOf (packed (now (values .entry)) k) n ⌝ }
+    ensures { λ r. ⌜ votedValue r ≡ majorityOf (packed (now (values .entry)) k) n ⌝ }
 {
     let mut found = Voted::Nothing;
     let mut i: usize = 0;
@@ -53,7 +53,7 @@ pub fn majority(values: &[u64; Plan::NODES], k: usize, n: usize) -> Voted
 
 pub fn or_own(frames: usize, own: u16, v: Voted) -> u16
     requires { ⌜ frames ≤ mostFrames ⌝ }
-    ensures { λ r. ⌜ r ≡ orOwn frames own (valueOf v) ⌝ }
+    ensures { λ r. ⌜ r ≡ orOwn frames own (votedValue v) ⌝ }
 {
     let Voted::Value(x) = v else {
         return own;
@@ -65,7 +65,7 @@ pub fn or_own(frames: usize, own: u16, v: Voted) -> u16
 }
 
 pub fn or_old(v: Voted, old: u64) -> u64
-    ensures { λ r. ⌜ r ≡ Option·getD (valueOf v) old ⌝ }
+    ensures { λ r. ⌜ r ≡ Option·getD (votedValue v) old ⌝ }
 {
     match v {
         Voted::Value(x) => x,

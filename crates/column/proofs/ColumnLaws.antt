@@ -13,7 +13,7 @@ use lib.ListN.{length, getD, take, length-append}
 use lib.Seq.{take-suc, take-length}
 use borrow.Author.Tests.{eqb-true, ne-eqb}
 use Rattle.numeral.specs.Numeral.{decimal, numeralOf}
-use Rattle.column.specs.Column.{dropBlanks, numberOf, mark, front, column}
+use Rattle.column.specs.Column.{dropBlanks, numberShown, mark, front, column}
 use Rattle.numeral.proofs.NumeralLaws.{decimal-none, decimal-grows, numeral-read}
 use Rattle.column.proofs.DigitsLaws.{Digit, Digits, wellFormed-of-digits, numeral-parts, decimal-one, decimal-last, decimal-bound, decimal-snoc, digits-snoc, digits-lone}
 
@@ -59,8 +59,8 @@ blanks-split (x ∷ s) = go (eqb x 32) refl (blanks-split s)
     go true q h = (suc (h .0), ap₂ {C = List ℕ} (λ y l. y ∷ l) (eqb-true x 32 q) (h .1) ∙ blanks-more (h .0) (dropBlanks s))
     go false q h = (0, refl)
 
-shows-of-number : (s : List ℕ) (v : ℕ) → numberOf s ≡ some v → Shows s v
-unfolding numberOf
+shows-of-number : (s : List ℕ) (v : ℕ) → numberShown s ≡ some v → Shows s v
+unfolding numberShown
 shows-of-number s v e =
     let b = blanks-split s in
     let n = numeral-parts (dropBlanks s) v e in
@@ -71,8 +71,8 @@ unfolding dropBlanks
 digits-start [] h = refl
 digits-start (x ∷ d) h = rw (ne-eqb x 32 (λ e. omega (arith, h .each 0 (h .full))))
 
-number-of-shows : (s : List ℕ) (v : ℕ) → Shows s v → v < 2 ^ 64 → numberOf s ≡ some v
-unfolding numberOf
+number-of-shows : (s : List ℕ) (v : ℕ) → Shows s v → v < 2 ^ 64 → numberShown s ≡ some v
+unfolding numberShown
 number-of-shows s v h l =
     let d = h .digits in
     let e : dropBlanks s ≡ d = ap dropBlanks (h .whole) ∙ blanks-before (h .blanks) d ∙ digits-start d (h .form) in
@@ -111,7 +111,7 @@ column-of-digits d b m e h =
 shows-length : (s : List ℕ) (v : ℕ) (h : Shows s v) → length s ≡ h .blanks + length (h .digits)
 shows-length s v h = ap length (h .whole) ∙ length-append (front (h .blanks) 0) (h .digits) ∙ rw (front-length (h .blanks) 0)
 
-pub column-of-number : (s : List ℕ) (v : ℕ) → numberOf s ≡ some v → s ≡ column (length s) v
+pub column-of-number : (s : List ℕ) (v : ℕ) → numberShown s ≡ some v → s ≡ column (length s) v
 column-of-number s v e =
     let h = shows-of-number s v e in
     let d = h .digits in
@@ -120,12 +120,12 @@ column-of-number s v e =
 
 -- ---- what is known of a number that was read
 
-pub number-bound : (s : List ℕ) (v : ℕ) → numberOf s ≡ some v → v < 2 ^ 64
-unfolding numberOf
+pub number-bound : (s : List ℕ) (v : ℕ) → numberShown s ≡ some v → v < 2 ^ 64
+unfolding numberShown
 number-bound s v e = numeral-parts (dropBlanks s) v e .2
 
 -- it has room in the column
-pub number-fits : (s : List ℕ) (v : ℕ) → numberOf s ≡ some v → v < 10 ^ length s
+pub number-fits : (s : List ℕ) (v : ℕ) → numberShown s ≡ some v → v < 10 ^ length s
 number-fits s v e =
     let h = shows-of-number s v e in
     let d = h .digits in
@@ -133,7 +133,7 @@ number-fits s v e =
     lt-of-lt-of-le (subst (λ (n : ℕ). n < 10 ^ length d) (h .number) l) (pow-le-pow-right (lit< tt) (omega (arith, shows-length s v h)))
 
 -- no column is empty
-pub number-full : (s : List ℕ) (v : ℕ) → numberOf s ≡ some v → 0 < length s
+pub number-full : (s : List ℕ) (v : ℕ) → numberShown s ≡ some v → 0 < length s
 number-full s v e = let h = shows-of-number s v e in omega (arith, shows-length s v h, h .form .full)
 
 -- ---- what is written is read back
@@ -170,7 +170,7 @@ shows-digit (suc w) q x v h l e =
     (λ p. shows-next (front (suc w) q) q x v (rw (mark-digit q p) (shows-digit w (q / 10) (q % 10) q (omega (arith, pow-suc 10 w)) (omega arith) (omega arith))) p l e)
     (eq-zero-or-pos q)
 
-pub number-of-column : (w v : ℕ) → 0 < w → v < 10 ^ w → v < 2 ^ 64 → numberOf (column w v) ≡ some v
+pub number-of-column : (w v : ℕ) → 0 < w → v < 10 ^ w → v < 2 ^ 64 → numberShown (column w v) ≡ some v
 unfolding column
 number-of-column zero v p h l = absurd (omega arith)
 number-of-column (suc w) v p h l =

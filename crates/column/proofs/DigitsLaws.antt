@@ -14,13 +14,13 @@ use borrow.Author.Tests.{eq-eqb, eqb-true, eqb-false, le-leb, leb-true, ltb-true
 use Rattle.array.specs.Index.{allBelow}
 use Rattle.array.proofs.TestLaws.{split, clash, and-left, and-right, and-both}
 use Rattle.array.proofs.IndexLaws.{allBelow-at, allBelow-all}
-use Rattle.numeral.specs.Numeral.{isDigit, decimal, wellFormed, numeralOf}
+use Rattle.numeral.specs.Numeral.{isDigit, decimal, isNumeral, numeralOf}
 use Rattle.numeral.proofs.NumeralLaws.{wellFormed-all}
 
 abbrev pub Digit : ℕ → Type 0
 Digit b = (48 ≤ b) × (b ≤ 57)
 
--- `wellFormed`, as facts
+-- `isNumeral`, as facts
 pub record Digits (d : List ℕ) : Type 0 where
   pub full : 0 < length d
   pub head : getD d 0 0 ≡ 48 → length d ≡ 1
@@ -35,8 +35,8 @@ lone true b e t = e
 lone false b e t = absurd (clash t refl)
 
 module _ (d : List ℕ) where
-  pub digits-of-wellFormed : wellFormed d ≡ true → Digits d
-  unfolding wellFormed
+  pub digits-of-wellFormed : isNumeral d ≡ true → Digits d
+  unfolding isNumeral
   digits-of-wellFormed e =
       let t₁ = ltb 0 (length d) in
       let t₂ = not (eqb (getD d 0 0) 48) || eqb (length d) 1 in
@@ -48,7 +48,7 @@ module _ (d : List ℕ) where
         each = λ k h. digit-of-test (getD d k 0) (allBelow-at (λ i. isDigit (getD d i 0)) (length d) k h (and-right (t₁ && t₂) t₃ e));
       }
 
-  pub wellFormed-of-digits : Digits d → wellFormed d ≡ true
+  pub wellFormed-of-digits : Digits d → isNumeral d ≡ true
   wellFormed-of-digits h =
       wellFormed-all d (h .full) (h .head)
       (allBelow-all (λ i. isDigit (getD d i 0)) (length d) (λ k l. and-both (le-leb 48 (getD d k 0) (h .each k l .0)) (le-leb (getD d k 0) 57 (h .each k l .1))))
@@ -56,13 +56,13 @@ module _ (d : List ℕ) where
 -- what a numeral that is read says of its digits
 pub numeral-parts : (d : List ℕ) (v : ℕ) → numeralOf d ≡ some v → Digits d × (decimal d (length d) ≡ v) × (v < 2 ^ 64)
 unfolding numeralOf
-numeral-parts d v e = go (wellFormed d && ltb (decimal d (length d)) (2 ^ 64)) refl e
+numeral-parts d v e = go (isNumeral d && ltb (decimal d (length d)) (2 ^ 64)) refl e
   where
-    go : (t : Bool) → (wellFormed d && ltb (decimal d (length d)) (2 ^ 64)) ≡ t → cond t (some (decimal d (length d))) none ≡ some v
+    go : (t : Bool) → (isNumeral d && ltb (decimal d (length d)) (2 ^ 64)) ≡ t → cond t (some (decimal d (length d))) none ≡ some v
         → Digits d × (decimal d (length d) ≡ v) × (v < 2 ^ 64)
     go true t q =
         let x : decimal d (length d) ≡ v = cc in
-        let n = ltb-true (decimal d (length d)) (2 ^ 64) (and-right (wellFormed d) (ltb (decimal d (length d)) (2 ^ 64)) t) in
+        let n = ltb-true (decimal d (length d)) (2 ^ 64) (and-right (isNumeral d) (ltb (decimal d (length d)) (2 ^ 64)) t) in
         (digits-of-wellFormed d (and-left _ _ t), x, rw (← x) n)
     go false t q = absurd (let z : _≡_ {A = ℕ} 0 1 = cc in omega arith)
 

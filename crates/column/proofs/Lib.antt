@@ -3,4 +3,5 @@ pub mod WritingLaws
 pub mod DigitsLaws
 pub mod ColumnLaws
 pub mod RowLaws
-pub mod LaidLaws
+pub mod BufferLaws
+pub mod BytesLaws

@@ -13,7 +13,7 @@ use borrow.Author.Tests.{eq-eqb, ne-eqb, eqb-true}
 use Rattle.array.specs.Index.{allBelow}
 use Rattle.array.proofs.TestLaws.{and-left, and-right}
 use Rattle.numeral.specs.Numeral.{numeralOf}
-use Rattle.column.specs.Column.{dropBlanks, numberOf}
+use Rattle.column.specs.Column.{dropBlanks, numberShown}
 
 -- ---- the blanks
 
@@ -50,8 +50,8 @@ pub number-skip :
     b ≡ allBelow (λ k. eqb (getD s (f + 8 + k) 0) 32) 8 →
     (a && b) ≡ true →
     i ≡ f + 16 →
-    numberOf (slice i t s) ≡ numberOf (slice f t s)
-unfolding numberOf
+    numberShown (slice i t s) ≡ numberShown (slice f t s)
+unfolding numberShown
 number-skip s f t {i} {a} {b} h l p q e r =
     let g : i ≡ f + 8 + 8 = omega arith in
     let x = blanks-skip-all s f t 8 (omega arith) l (sym p ∙ and-left a b e) in

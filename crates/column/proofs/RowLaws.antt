@@ -12,9 +12,9 @@ use borrow.Author.Tests.{eqb-true, eq-eqb}
 use Rattle.array.proofs.TestLaws.{and-left, and-right}
 use Rattle.numeral.specs.declared.Number.{Number}
 use Rattle.numeral.specs.declared.Number.the-variants.{Value}
-use Rattle.column.specs.Column.{column, numberOf}
+use Rattle.column.specs.Column.{column, numberShown}
 use Rattle.numeral.specs.Answers.{shown}
-use Rattle.column.specs.Row.{row, Room, andThen, numbersFrom, numbersOf}
+use Rattle.column.specs.Row.{row, Room, andThen, numbersFrom, numbersShown}
 use Rattle.column.proofs.ColumnLaws.{column-length, column-of-number, number-of-column, number-bound, number-fits, number-full}
 
 -- the sum of the widths
@@ -67,9 +67,9 @@ end-of-some at s vs e = go (eqb (length s) (at + 1) && eqb (getD s at 0) 10) ref
         }
     go false q e = absurd (let z : _≡_ {A = ℕ} 0 1 = cc in omega arith)
 
-more-of-some : (at w : ℕ) (ws s vs : List ℕ) → numbersFrom at (w ∷ ws) s ≡ some vs → Both (numberOf (slice at (at + w) s)) (numbersFrom (at + w) ws s) vs
+more-of-some : (at w : ℕ) (ws s vs : List ℕ) → numbersFrom at (w ∷ ws) s ≡ some vs → Both (numberShown (slice at (at + w) s)) (numbersFrom (at + w) ws s) vs
 unfolding numbersFrom
-more-of-some at w ws s vs e = both-of-some (numberOf (slice at (at + w) s)) (numbersFrom (at + w) ws s) vs e
+more-of-some at w ws s vs e = both-of-some (numberShown (slice at (at + w) s)) (numbersFrom (at + w) ws s) vs e
 
 from-length : (at : ℕ) (ws s vs : List ℕ) → numbersFrom at ws s ≡ some vs → length s ≡ at + total ws + 1
 unfolding total
@@ -99,11 +99,11 @@ from-row at (w ∷ ws) s vs e =
     slice-rest s at (at + w) (omega arith) (omega (arith, from-length (at + w) ws s (h .tail) (h .rest)))
     ∙ rw (c, from-row (at + w) ws s (h .tail) (h .rest)) (ap (row (w ∷ ws)) (sym (h .whole)))
 
-pub row-of-numbers : (ws s vs : List ℕ) → numbersOf ws s ≡ some vs → s ≡ row ws vs
-unfolding numbersOf
+pub row-of-numbers : (ws s vs : List ℕ) → numbersShown ws s ≡ some vs → s ≡ row ws vs
+unfolding numbersShown
 row-of-numbers ws s vs e = from-row 0 ws s vs e
 
-pub numbers-length : (ws s vs : List ℕ) → numbersOf ws s ≡ some vs → length s ≡ total ws + 1
+pub numbers-length : (ws s vs : List ℕ) → numbersShown ws s ≡ some vs → length s ≡ total ws + 1
 numbers-length ws s vs e = ap length (row-of-numbers ws s vs e) ∙ row-length ws vs
 
 -- ---- what is known of numbers that were read
@@ -115,8 +115,8 @@ from-room at (w ∷ ws) s vs e =
     let f : length (slice at (at + w) s) ≡ w = from-slice at w ws s vs e in
     rw (h .whole) (rw f at (number-full (slice at (at + w) s) (h .head) (h .first)), rw f at (number-fits (slice at (at + w) s) (h .head) (h .first)), number-bound (slice at (at + w) s) (h .head) (h .first), from-room (at + w) ws s (h .tail) (h .rest))
 
-pub room-of-numbers : (ws s vs : List ℕ) → numbersOf ws s ≡ some vs → Room ws vs
-unfolding numbersOf
+pub room-of-numbers : (ws s vs : List ℕ) → numbersShown ws s ≡ some vs → Room ws vs
+unfolding numbersShown
 room-of-numbers ws s vs e = from-room 0 ws s vs e
 
 -- a number for each column
@@ -150,6 +150,6 @@ from-written p (w ∷ ws) (v ∷ vs) at l r =
     let q : numbersFrom (at + w) ws (p ++ (c ++ row ws vs)) ≡ some vs = rw (← append-assoc p c (row ws vs)) (from-written (p ++ c) ws vs (at + w) k (r .3)) in
     rw (slice-middle p c (row ws vs) at w l (column-length w v), number-of-column w v (r .0) (r .1) (r .2), q)
 
-pub numbers-of-row : (ws vs : List ℕ) → Room ws vs → numbersOf ws (row ws vs) ≡ some vs
-unfolding numbersOf
+pub numbers-of-row : (ws vs : List ℕ) → Room ws vs → numbersShown ws (row ws vs) ≡ some vs
+unfolding numbersShown
 numbers-of-row ws vs r = from-written [] ws vs 0 refl r

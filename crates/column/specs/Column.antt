@@ -16,8 +16,8 @@ dropBlanks [] = []
 dropBlanks (b ∷ s) = cond (eqb b 32) (dropBlanks s) (b ∷ s)
 
 -- the number that a column shows
-unfoldable pub numberOf : List ℕ → Option ℕ
-numberOf s = numeralOf (dropBlanks s)
+unfoldable pub numberShown : List ℕ → Option ℕ
+numberShown s = numeralOf (dropBlanks s)
 
 -- ---- writing
 
@@ -30,7 +30,7 @@ unfoldable pub front : ℕ → ℕ → List ℕ
 front zero q = []
 front (suc w) q = front w (q / 10) ++ (mark q ∷ [])
 
--- the column of width w that shows v
+-- the column of width w that shows v, for v < 10^w; of a wider number, its last w digits
 unfoldable pub column : ℕ → ℕ → List ℕ
 column zero v = []
 column (suc w) v = front w (v / 10) ++ ((48 + v % 10) ∷ [])

@@ -6,7 +6,7 @@ use mathlib.Core.Option.{Option, none, some}
 use lib.Dec.{eqb}
 use lib.ListN.{length, getD}
 use lib.Seq.{slice}
-use Rattle.column.specs.Column.{column, numberOf}
+use Rattle.column.specs.Column.{column, numberShown}
 
 -- ---- writing
 
@@ -34,8 +34,8 @@ andThen (some v) (some vs) = some (v ∷ vs)
 -- the numbers that the columns of the widths ws show from a place on, if a line feed ends them and the line
 unfoldable pub numbersFrom : ℕ → List ℕ → List ℕ → Option (List ℕ)
 numbersFrom at [] s = cond (eqb (length s) (at + 1) && eqb (getD s at 0) 10) (some []) none
-numbersFrom at (w ∷ ws) s = andThen (numberOf (slice at (at + w) s)) (numbersFrom (at + w) ws s)
+numbersFrom at (w ∷ ws) s = andThen (numberShown (slice at (at + w) s)) (numbersFrom (at + w) ws s)
 
 -- the numbers of a row of columns of the widths ws
-unfoldable pub numbersOf : List ℕ → List ℕ → Option (List ℕ)
-numbersOf ws s = numbersFrom 0 ws s
+unfoldable pub numbersShown : List ℕ → List ℕ → Option (List ℕ)
+numbersShown ws s = numbersFrom 0 ws s

@@ -2,7 +2,7 @@
 ghost use mathlib.Core.Path.{_≡_};
 ghost use lib.ListN.{length};
 ghost use lib.Seq.{slice};
-ghost use Rattle.column.specs.Column.{dropBlanks, numberOf, mark, column};
+ghost use Rattle.column.specs.Column.{dropBlanks, numberShown, mark, column};
 ghost use Rattle.numeral.specs.Answers.{shown};
 use numeral::Number;
 
@@ -26,7 +26,7 @@ pub fn digits<'a>(line: &'a [u8], from: usize, to: usize) -> &'a [u8]
 }
 
 pub fn read(line: &[u8], from: usize, to: usize) -> Number
-    ensures { λ r. ⌜ shown r ≡ numberOf (slice from to (now (line .entry))) ⌝ }
+    ensures { λ r. ⌜ shown r ≡ numberShown (slice from to (now (line .entry))) ⌝ }
 {
     numeral::numeral(digits(line, from, to))
 }

@@ -5,7 +5,7 @@ ghost use lib.Dec.{eqb};
 ghost use lib.ListN.{length, getD};
 ghost use lib.Seq.{slice};
 ghost use Rattle.array.specs.Index.{allBelow};
-ghost use Rattle.column.specs.Column.{numberOf};
+ghost use Rattle.column.specs.Column.{numberShown};
 ghost use Rattle.numeral.specs.Answers.{shown};
 use numeral::Number;
 
@@ -27,7 +27,7 @@ fn eight_blanks(line: &[u8], i: usize) -> bool
 // What `read` gives; sixteen blanks at the start are passed over at once.
 pub fn read_wide(line: &[u8], from: usize, to: usize) -> Number
     requires { ⌜ (from + 16 ≤ to) × (to ≤ length (now line)) ⌝ }
-    ensures { λ r. ⌜ shown r ≡ numberOf (slice from to (now (line .entry))) ⌝ }
+    ensures { λ r. ⌜ shown r ≡ numberShown (slice from to (now (line .entry))) ⌝ }
 {
     let blank = eight_blanks(line, from) & eight_blanks(line, from + 8);
     let i = if blank { from + 16 } else { from };

@@ -1,1 +1,1 @@
-pub mod PartLaws
+pub mod LayoutLaws

@@ -9,10 +9,10 @@ ghost use Rattle.plan.specs.Accepted.{accepted};
 ghost use Rattle.plan.specs.Known.{period as periodOf};
 ghost use Rattle.plan.specs.Sizes.{sizesOf};
 ghost use Rattle.system.specs.Fault.{faultsSize};
-ghost use Rattle.system.specs.Frame.{lengthsOk, systemAfter, placeAfter, frameAnswer, framePlace, singleAnswer, singlePlaceAfter, workingAnswer, agreeingAnswer};
+ghost use Rattle.system.specs.Frame.{lengthsOk, systemAfter, placeAfter, frameAnswer, framePlace, singleAnswer, singlePlaceAfter, workingAnswer, equalAnswer};
 use answer::Answer;
 use memory::Memory;
-use node::Outcome;
+use memory::Outcome;
 use plan::Plan;
 use system::Counted;
 use system::Framed;
@@ -79,7 +79,7 @@ pub fn frame(
 ) -> Framed
     ensures { λ r. ⌜ (r ≡ frameAnswer plan system (now (sensors .entry)) mask (now (faults .entry)) (now (place .entry))) × (now (place .exit) ≡ framePlace plan system (now (sensors .entry)) mask (now (faults .entry)) (now (place .entry))) ⌝ }
 {
-    let period = recovery::accepted_period(plan);
+    let period = plan_period::accepted_period(plan);
     if period == 0 {
         return Framed {
             answer: Answer::InvalidPlan,
@@ -109,7 +109,7 @@ pub fn frame(
 pub fn single(plan: Plan, memory: Memory, sensors: &[u64], place: &mut [u64]) -> Outcome
     ensures { λ r. ⌜ (r ≡ singleAnswer plan memory (now (sensors .entry)) (now (place .entry))) × (now (place .exit) ≡ singlePlaceAfter plan memory (now (sensors .entry)) (now (place .entry))) ⌝ }
 {
-    if recovery::accepted_period(plan) == 0 {
+    if plan_period::accepted_period(plan) == 0 {
         return Outcome {
             answer: Answer::InvalidPlan,
             memory,
@@ -134,7 +134,7 @@ pub fn single(plan: Plan, memory: Memory, sensors: &[u64], place: &mut [u64]) ->
 pub fn working(plan: Plan, system: System, mask: u64) -> Counted
     ensures { λ r. ⌜ r ≡ workingAnswer plan system mask ⌝ }
 {
-    let period = recovery::accepted_period(plan);
+    let period = plan_period::accepted_period(plan);
     if period == 0 {
         return Counted {
             answer: Answer::InvalidPlan,
@@ -155,10 +155,10 @@ pub fn working(plan: Plan, system: System, mask: u64) -> Counted
     }
 }
 
-pub fn agreeing(plan: Plan, system: System, memory: Memory) -> Counted
-    ensures { λ r. ⌜ r ≡ agreeingAnswer plan system memory ⌝ }
+pub fn equal(plan: Plan, system: System, memory: Memory) -> Counted
+    ensures { λ r. ⌜ r ≡ equalAnswer plan system memory ⌝ }
 {
-    let period = recovery::accepted_period(plan);
+    let period = plan_period::accepted_period(plan);
     if period == 0 {
         return Counted {
             answer: Answer::InvalidPlan,
@@ -176,7 +176,7 @@ pub fn agreeing(plan: Plan, system: System, memory: Memory) -> Counted
     let mut cells = [0u64; rows::step::WORDS];
     rows::step::put_memory(memory, 0, &mut counters, &mut cells);
     rows::step::unpack(system, &mut counters, &mut cells);
-    let count = rows::step::agreeing(&counters, &cells, nodes, plan.cells);
+    let count = rows::step::equal(&counters, &cells, nodes, plan.cells);
     Counted {
         answer: Answer::Done,
         count,

@@ -3,3 +3,5 @@ pub mod WritingLaws
 pub mod StepLaws
 pub mod RunLaws
 pub mod RowsLaws
+pub mod NextLaws
+pub mod BlockLaws

@@ -11,14 +11,14 @@ use lib.ListN.{length, getD, take, set, replicate}
 use lib.Seq.{slice, append-snoc, take-suc-set}
 use borrow.Author.Tests.{eq-eqb, ne-eqb, lt-leb, le-leb}
 use Rattle.array.proofs.TestLaws.{and-false-left, and-false-right, clash}
-use Rattle.column.specs.Column.{numberOf}
-use Rattle.column.specs.Row.{andThen, numbersFrom, numbersOf}
+use Rattle.column.specs.Column.{numberShown}
+use Rattle.column.specs.Row.{andThen, numbersFrom, numbersShown}
 use Rattle.numeral.specs.declared.Number.{Number}
 use Rattle.numeral.specs.declared.Number.the-variants.{Malformed}
 use Rattle.numeral.specs.Answers.{shown}
 use Rattle.array.proofs.BitLaws.{mask-fits}
 use Rattle.lines.specs.Line.{runWidths, inLimits, runNumbers}
-use Rattle.lines.specs.Step.{ifRead}
+use Rattle.lines.specs.Code.{ifRead}
 
 -- ---- what the code was told
 
@@ -65,7 +65,7 @@ module _ (line : List ℕ) (count : ℕ) where
       rw e (front-none (numbersFrom 8 (replicate count 20) line))
 
   module _ (k : ℕ) (l : k < count) where
-    rest-more : rest line count k ≡ andThen (numberOf (slice (8 + 20 * k) (8 + 20 * k + 20) line)) (rest line count (k + 1))
+    rest-more : rest line count k ≡ andThen (numberShown (slice (8 + 20 * k) (8 + 20 * k + 20) line)) (rest line count (k + 1))
     unfolding rest numbersFrom
     rest-more =
         let e : count - k ≡ suc (count - (k + 1)) = omega arith in
@@ -74,14 +74,14 @@ module _ (line : List ℕ) (count : ℕ) where
 
     module _ (ps : List ℕ) (h : Front line count ps k) where
       -- a column that shows a number
-      pub front-next : (v : ℕ) → k < length ps → some v ≡ numberOf (slice (8 + 20 * k) (8 + 20 * k + 20) line) → Front line count (set ps k v) (k + 1)
+      pub front-next : (v : ℕ) → k < length ps → some v ≡ numberShown (slice (8 + 20 * k) (8 + 20 * k + 20) line) → Front line count (set ps k v) (k + 1)
       front-next v b e =
           let t : take (k + 1) (set ps k v) ≡ take k ps ++ (v ∷ []) = rw (add-one k) (take-suc-set ps k v b) in
           let m : andThen (some v) (rest line count (k + 1)) ≡ rest line count k = rw e (sym rest-more) in
           rw t (front-and (take k ps) v (rest line count (k + 1)) ∙ ap (withFront (take k ps)) m ∙ h)
 
       -- a column that shows none
-      pub front-bad : none ≡ numberOf (slice (8 + 20 * k) (8 + 20 * k + 20) line) → none ≡ numbersFrom 8 (replicate count 20) line
+      pub front-bad : none ≡ numberShown (slice (8 + 20 * k) (8 + 20 * k + 20) line) → none ≡ numbersFrom 8 (replicate count 20) line
       front-bad e = let n : rest line count k ≡ none = rest-more ∙ rw (← e) in ap (withFront (take k ps)) (sym n) ∙ h
 
   -- all are read
@@ -108,7 +108,7 @@ unfolding numbersFrom
 end-missing at zero s h = let e : at + 20 * 0 ≡ at = omega arith in rw (rw e at h)
 end-missing at (suc n) s h =
     let e : at + 20 * suc n ≡ at + 20 + 20 * n = omega arith in
-    rw (end-missing (at + 20) n s (rw e at h)) (and-none (numberOf (slice at (at + 20) s)))
+    rw (end-missing (at + 20) n s (rw e at h)) (and-none (numberShown (slice at (at + 20) s)))
 
 -- the mask or the fill is too large
 limits-bad : (n a b : ℕ) (o : Option (List ℕ)) → (ltb a (2 ^ n) && leb b 255) ≡ false → inLimits n (andThen (some a) (andThen (some b) o)) ≡ none
@@ -119,15 +119,15 @@ limits-bad n a b (some us) h = rw h
 module _ (n s : ℕ) (line : List ℕ) where
   line-columns :
       runNumbers n s line
-      ≡ inLimits n (andThen (numberOf (slice 0 4 line)) (andThen (numberOf (slice 4 8 line)) (numbersFrom 8 (replicate s 20) line)))
-  unfolding runNumbers runWidths numbersOf numbersFrom
+      ≡ inLimits n (andThen (numberShown (slice 0 4 line)) (andThen (numberShown (slice 4 8 line)) (numbersFrom 8 (replicate s 20) line)))
+  unfolding runNumbers runWidths numbersShown numbersFrom
   line-columns = refl
 
   -- ---- each way to show nothing
 
   pub patterns-bad : none ≡ numbersFrom 8 (replicate s 20) line → none ≡ runNumbers n s line
   unfolding inLimits
-  patterns-bad e = sym (line-columns ∙ rw (← e, and-none (numberOf (slice 4 8 line)), and-none (numberOf (slice 0 4 line))))
+  patterns-bad e = sym (line-columns ∙ rw (← e, and-none (numberShown (slice 4 8 line)), and-none (numberShown (slice 0 4 line))))
 
   pub length-bad : (length line ≡ 8 + 20 * s + 1 → ⊥) → none ≡ runNumbers n s line
   length-bad h =
@@ -137,17 +137,17 @@ module _ (n s : ℕ) (line : List ℕ) where
   end-bad h =
       patterns-bad (sym (end-missing 8 s line (and-false-right (eqb (length line) (8 + 20 * s + 1)) (ne-eqb (getD line (8 + 20 * s) 0) 10 h))))
 
-  pub mask-bad : none ≡ numberOf (slice 0 4 line) → none ≡ runNumbers n s line
+  pub mask-bad : none ≡ numberShown (slice 0 4 line) → none ≡ runNumbers n s line
   unfolding inLimits
   mask-bad e = sym (line-columns ∙ rw (← e))
 
-  pub fill-bad : none ≡ numberOf (slice 4 8 line) → none ≡ runNumbers n s line
+  pub fill-bad : none ≡ numberShown (slice 4 8 line) → none ≡ runNumbers n s line
   unfolding inLimits
-  fill-bad e = sym (line-columns ∙ rw (← e, and-none (numberOf (slice 0 4 line))))
+  fill-bad e = sym (line-columns ∙ rw (← e, and-none (numberShown (slice 0 4 line))))
 
   -- ---- a mask and a fill that are read
 
-  module _ {a b : ℕ} (p : some a ≡ numberOf (slice 0 4 line)) (q : some b ≡ numberOf (slice 4 8 line)) where
+  module _ {a b : ℕ} (p : some a ≡ numberShown (slice 0 4 line)) (q : some b ≡ numberShown (slice 4 8 line)) where
     line-limits : runNumbers n s line ≡ inLimits n (andThen (some a) (andThen (some b) (numbersFrom 8 (replicate s 20) line)))
     line-limits = rw (p, q) line-columns
 

@@ -26,16 +26,16 @@ use Rattle.system.specs.Fault.{faultSize, faultsSize, faultAt}
 use Rattle.system.specs.Frame.{systemAfter, placeAfter}
 use Rattle.system.proofs.FaultsOfBadLaws.{faults-of-bad}
 use Rattle.faults.specs.Code.{Parts, BadHold}
-use Rattle.faults.proofs.PartLaws.{parts-none, held-fills}
-use Rattle.rows.specs.Rows.{memoryIn, Rows, sameRow}
-use Rattle.rows.proofs.RowLaws.{agreeing-is}
+use Rattle.faults.proofs.LayoutLaws.{parts-none, held-fills}
+use Rattle.rows.specs.Code.{memoryIn, Rows, sameRow}
+use Rattle.rows.proofs.RowLaws.{equal-is}
 use Rattle.lines.specs.declared.Printed.{Printed}
 use Rattle.lines.specs.declared.step.Stepped.{Stepped}
 use Rattle.lines.specs.declared.step.LineRead.{LineRead}
 use Rattle.lines.specs.declared.step.LineRead.the-variants.{Whole, Refused}
 use Rattle.lines.specs.Line.{printedWidths, printedSize}
-use Rattle.lines.specs.Listing.{mostLines, lineNumbers, faultBytes, systemNext, singleNext, planes, working, agreeing, frameLine, lineOf, systemAt, singleAt, frames}
-use Rattle.lines.specs.Step.{stepAnswer, stepPlace, printedWith, lineRead}
+use Rattle.lines.specs.Listing.{mostRunLines, lineNumbers, faultBytes, systemNext, singleAfter, planes, working, equal, frameLine, readLine, systemAt, singleAt, frames}
+use Rattle.lines.specs.Code.{stepAnswer, stepPlace, printedWith, lineRead}
 use Rattle.lines.proofs.StepLaws.{line-early, line-in-time, planes-lent, Within, numbers-within}
 use Rattle.lines.proofs.RunLaws.{lineBytes, Ran, ran-none, ran-more, frames-are}
 
@@ -86,18 +86,18 @@ module _ (p : Plan) (s : Sizes) (e : s ≡ sizesOf p) (sys : System) (vs : List 
       (single : Memory) (counters cells good : List ℕ) →
       p .nodes ≤ mostNodes →
       Rows (systemNext p sys numbers) counters cells good →
-      memoryIn counters cells 0 ≡ singleNext p single numbers →
-      howMany (λ j. sameRow (s .cells) counters cells (j + 1)) (s .nodes) ≡ agreeing p (systemNext p sys numbers) (singleNext p single numbers)
-  unfolding agreeing
+      memoryIn counters cells 0 ≡ singleAfter p single numbers →
+      howMany (λ j. sameRow (s .cells) counters cells (j + 1)) (s .nodes) ≡ equal p (systemNext p sys numbers) (singleAfter p single numbers)
+  unfolding equal
   same-rows single counters cells good few h f =
       ap (λ (t : Sizes). howMany (λ j. sameRow (t .cells) counters cells (j + 1)) (t .nodes)) e
-      ∙ agreeing-is p (systemNext p sys numbers) (singleNext p single numbers) counters cells good (p .nodes) h f refl few
+      ∙ equal-is p (systemNext p sys numbers) (singleAfter p single numbers) counters cells good (p .nodes) h f refl few
 
   pub line-is :
       (single : Memory) (frame : ℕ) {w g : ℕ} {out us : List ℕ} →
       out ≡ row (printedWidths (s .actuators)) (frame ∷ w ∷ g ∷ us) →
       w ≡ working p sys numbers →
-      g ≡ agreeing p (systemNext p sys numbers) (singleNext p single numbers) →
+      g ≡ equal p (systemNext p sys numbers) (singleAfter p single numbers) →
       us ≡ planes p sys numbers →
       out ≡ frameLine p sys single frame numbers
   unfolding frameLine
@@ -150,7 +150,7 @@ module _ (p : Plan) (sys : System) (single : Memory) (first : ℕ) (rest out₀ 
     pub rows : Rows (systemAt p sys single first rest k) counters cells good
     pub first-row : memoryIn counters cells 0 ≡ singleAt p sys single first rest k
 
-  pub going-none : {counters cells good : List ℕ} → first ≤ mostLines → Rows sys counters cells good → memoryIn counters cells 0 ≡ single → Going 0 counters cells good out₀
+  pub going-none : {counters cells good : List ℕ} → first ≤ mostRunLines → Rows sys counters cells good → memoryIn counters cells 0 ≡ single → Going 0 counters cells good out₀
   unfolding systemAt singleAt
   going-none l h m = record { ran = ran-none p sys single first rest out₀ l; rows = h; first-row = m }
 
@@ -172,7 +172,7 @@ module _ (p : Plan) (sys : System) (single : Memory) (first : ℕ) (rest out₀ 
         b ≡ printedSize (p .actuators) →
         to ≡ frameLine p here (memoryIn counters cells 0) (first + k) l →
         Rows (systemNext p here l) counters' cells' good' →
-        memoryIn counters' cells' 0 ≡ singleNext p (memoryIn counters cells 0) l →
+        memoryIn counters' cells' 0 ≡ singleAfter p (memoryIn counters cells 0) l →
         Going (k + 1) counters' cells' good' (putMid a b out to)
     unfolding stepAnswer stepPlace
     going-next line l to {a} {b} {counters'} {cells'} {good'} e o ea eb f h m =
@@ -182,11 +182,11 @@ module _ (p : Plan) (sys : System) (single : Memory) (first : ℕ) (rest out₀ 
         record {
           ran = canonical r;
           rows = subst (λ (y : System). Rows y counters' cells' good') (r .system-is) h;
-          first-row = m ∙ ap (λ (x : Memory). singleNext p x l) (g .first-row) ∙ r .single-is;
+          first-row = m ∙ ap (λ (x : Memory). singleAfter p x l) (g .first-row) ∙ r .single-is;
         }
 
     pub going-refused : (line : List ℕ) → line ≡ lineBytes p sys single first rest k → lineNumbers p (first + k) line ≡ none → frames p sys single first rest ≡ k
-    unfolding lineOf
+    unfolding readLine
     going-refused line e o =
         frames-are p sys single first rest (g .ran)
         (λ l. sym (line-early p (first + k) (lineBytes p sys single first rest k) l) ∙ ap (lineNumbers p (first + k)) (sym e) ∙ o)

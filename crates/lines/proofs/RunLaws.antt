@@ -24,8 +24,8 @@ use Rattle.lines.specs.declared.step.Stepped.{Stepped}
 use Rattle.lines.specs.declared.Run.{Run}
 use Rattle.lines.specs.declared.Printed.{Printed}
 use Rattle.lines.specs.Line.{runLineSize, printedSize}
-use Rattle.lines.specs.Listing.{mostLines, leading, isSome, lineNumbers, frameLine, lineOf, numbersOf, systemAt, singleAt, printedAt, frames, printed, lineLeft}
-use Rattle.lines.specs.Step.{blockLines, stepAnswer, stepPlace, printedWith, framesIn, linesAnswer, linesPlace}
+use Rattle.lines.specs.Listing.{mostRunLines, leading, isSome, lineNumbers, frameLine, readLine, readNumbers, systemAt, singleAt, printedAt, frames, printed, lineLeft}
+use Rattle.lines.specs.Code.{blockLines, stepAnswer, stepPlace, printedWith, framesLeft, linesAnswer, linesPlace}
 use Rattle.lines.proofs.StepLaws.{part-taken, take-fits, numbers-size, nothing-read, line-early, line-in-time, taken-some}
 use Rattle.lines.proofs.WritingLaws.{frame-length}
 
@@ -76,17 +76,17 @@ module _ (p : Plan) (sys : System) (single : Memory) (first : ℕ) (rest : List 
   printed-length zero = sym (zero-mul width)
   printed-length (suc k) =
       length-append (printedTo k) (printedAt p sys single first rest k)
-      ∙ rw (printed-length k, frame-length p (systemAt p sys single first rest k) (singleAt p sys single first rest k) (first + k) (numbersOf p sys single first rest k), suc-mul k width)
+      ∙ rw (printed-length k, frame-length p (systemAt p sys single first rest k) (singleAt p sys single first rest k) (first + k) (readNumbers p sys single first rest k), suc-mul k width)
 
   -- the record, the single controller and the buffer after k lines, all of them good
   pub record Ran (out₀ : List ℕ) (k : ℕ) (after : System) (memory : Memory) (out : List ℕ) : Type 0 where
-    pub few : first + k ≤ mostLines
-    pub good : (j : ℕ) → j < k → isSome (lineOf p sys single first rest j) ≡ true
+    pub few : first + k ≤ mostRunLines
+    pub good : (j : ℕ) → j < k → isSome (readLine p sys single first rest j) ≡ true
     pub system-is : after ≡ systemAt p sys single first rest k
     pub single-is : memory ≡ singleAt p sys single first rest k
     pub out-is : out ≡ printedTo k ++ drop (k * width) out₀
 
-  pub ran-none : (out₀ : List ℕ) → first ≤ mostLines → Ran out₀ 0 sys single out₀
+  pub ran-none : (out₀ : List ℕ) → first ≤ mostRunLines → Ran out₀ 0 sys single out₀
   unfolding systemAt singleAt joined
   ran-none out₀ l = record { few = omega arith; good = λ j m. absurd (omega arith); system-is = refl; single-is = refl; out-is = ap (λ (n : ℕ). drop n out₀) (sym (zero-mul width)) }
 
@@ -100,8 +100,8 @@ module _ (p : Plan) (sys : System) (single : Memory) (first : ℕ) (rest : List 
     drop-printed : drop (k * width) out ≡ drop (k * width) out₀
     drop-printed = ap (drop (k * width)) (h .out-is) ∙ drop-at (printedTo k) (drop (k * width) out₀) (k * width) (printed-length k)
 
-    line-is : {l : List ℕ} → lineNumbers p (first + k) (lineBytes k) ≡ some l → lineOf p sys single first rest k ≡ some l
-    unfolding lineOf
+    line-is : {l : List ℕ} → lineNumbers p (first + k) (lineBytes k) ≡ some l → readLine p sys single first rest k ≡ some l
+    unfolding readLine
     line-is {l} e = sym (line-early p (first + k) (lineBytes k) (line-in-time p (first + k) (lineBytes k) l e)) ∙ e
 
     -- one line more, with the numbers l
@@ -112,18 +112,18 @@ module _ (p : Plan) (sys : System) (single : Memory) (first : ℕ) (rest : List 
         to ≡ stepPlace p after memory (first + k) (lineNumbers p (first + k) line) (take width (drop (k * width) out)) →
         lineNumbers p (first + k) line ≡ some l →
         Ran out₀ (k + 1) (s .system) (s .single) (putMid (k * width) width out to)
-    unfolding stepAnswer stepPlace systemAt singleAt numbersOf printedAt
+    unfolding stepAnswer stepPlace systemAt singleAt readNumbers printedAt
     more-with s line to l e f g o =
         let u : lineNumbers p (first + k) (lineBytes k) ≡ some l = ap (lineNumbers p (first + k)) (sym e) ∙ o in
-        let v : lineOf p sys single first rest k ≡ some l = line-is u in
-        let n : l ≡ numbersOf p sys single first rest k = sym (ap (λ (x : Option (List ℕ)). Option·getD x []) v) in
+        let v : readLine p sys single first rest k ≡ some l = line-is u in
+        let n : l ≡ readNumbers p sys single first rest k = sym (ap (λ (x : Option (List ℕ)). Option·getD x []) v) in
         let a : s ≡ stepAnswer p after memory (some l) = f ∙ rw o in
         let b : to ≡ frameLine p after memory (first + k) l = g ∙ rw o in
         let c : to ≡ printedAt p sys single first rest k = b ∙ rw (h .system-is, h .single-is, n) in
         let w : k * width + width ≡ (k + 1) * width = sym (rw (add-one k) (suc-mul k width)) in
         let d : drop width (drop (k * width) out) ≡ drop ((k + 1) * width) out₀ = ap (drop width) drop-printed ∙ drop-drop width (k * width) out₀ ∙ ap (λ (i : ℕ). drop i out₀) w in
         record {
-          few = let z : first + k < mostLines = line-in-time p (first + k) (lineBytes k) l u in omega arith;
+          few = let z : first + k < mostRunLines = line-in-time p (first + k) (lineBytes k) l u in omega arith;
           good = λ j m. split (eqb j k) (λ t. rw (eqb-true j k t, v)) (λ t. h .good j (omega (arith, eqb-false j k t)));
           system-is = ap (λ (x : Stepped). x .system) a ∙ rw (add-one k, h .system-is, n);
           single-is = ap (λ (x : Stepped). x .single) a ∙ rw (add-one k, h .single-is, n);
@@ -147,15 +147,15 @@ module _ (p : Plan) (sys : System) (single : Memory) (first : ℕ) (rest : List 
         rw (x, y) (more-with s line to (o .0) e f (g ∙ rw (x, y)) (o .1))
 
     -- line k is the first that is not run
-    pub frames-are : (first + k < mostLines → lineOf p sys single first rest k ≡ none) → frames p sys single first rest ≡ k
+    pub frames-are : (first + k < mostRunLines → readLine p sys single first rest k ≡ none) → frames p sys single first rest ≡ k
     unfolding frames
     frames-are e =
-        leading-is (λ j. isSome (lineOf p sys single first rest j)) (mostLines - first) k (omega (arith, h .few)) (h .good)
+        leading-is (λ j. isSome (readLine p sys single first rest j)) (mostRunLines - first) k (omega (arith, h .few)) (h .good)
         (λ l. ap isSome (e (omega arith)))
 
     -- nothing is left
     pub ran-ended : length rest ≤ k * size → frames p sys single first rest ≡ k
-    unfolding lineOf
+    unfolding readLine
     ran-ended m =
         frames-are
         (λ l. rw (drop-of-length-le rest {i = k * size} m, take-nil {A = ℕ} size) (nothing-read (p .nodes) (p .sensors)))
@@ -231,24 +231,24 @@ some-of-isSome (some l) e = (l, refl)
 
 module _ (p : Plan) (sys : System) (single : Memory) (first : ℕ) (rest : List ℕ) where
   -- a line that is of form is whole
-  pub line-fits : (k : ℕ) {l : List ℕ} → lineOf p sys single first rest k ≡ some l → k * runLineSize (p .sensors) + runLineSize (p .sensors) ≤ length rest
-  unfolding lineOf
+  pub line-fits : (k : ℕ) {l : List ℕ} → readLine p sys single first rest k ≡ some l → k * runLineSize (p .sensors) + runLineSize (p .sensors) ≤ length rest
+  unfolding readLine
   line-fits k {l} e =
       let n : length (lineBytes p sys single first rest k) ≡ runLineSize (p .sensors) = numbers-size (p .nodes) (p .sensors) (lineBytes p sys single first rest k) l e in
       let f : runLineSize (p .sensors) ≤ length (drop (k * runLineSize (p .sensors)) rest) = take-fits (runLineSize (p .sensors)) (drop (k * runLineSize (p .sensors)) rest) n in
       omega (arith, length-drop (k * runLineSize (p .sensors)) rest)
 
   -- no more than are left of the most
-  pub frames-bound : frames p sys single first rest ≤ mostLines - first
+  pub frames-bound : frames p sys single first rest ≤ mostRunLines - first
   unfolding frames
-  frames-bound = leading-bound (λ k. isSome (lineOf p sys single first rest k)) (mostLines - first)
+  frames-bound = leading-bound (λ k. isSome (readLine p sys single first rest k)) (mostRunLines - first)
 
   -- and all of whole lines
   fit-below : (n : ℕ) → n ≤ frames p sys single first rest → n * runLineSize (p .sensors) ≤ length rest
   unfolding frames
   fit-below zero l = omega (arith, zero-mul (runLineSize (p .sensors)))
   fit-below (suc n) l =
-      let g = some-of-isSome (lineOf p sys single first rest n) (leading-good (λ k. isSome (lineOf p sys single first rest k)) (mostLines - first) n l) in
+      let g = some-of-isSome (readLine p sys single first rest n) (leading-good (λ k. isSome (readLine p sys single first rest k)) (mostRunLines - first) n l) in
       omega (arith, line-fits n (g .1), suc-mul n (runLineSize (p .sensors)))
 
   pub frames-fit : frames p sys single first rest * runLineSize (p .sensors) ≤ length rest
@@ -256,41 +256,43 @@ module _ (p : Plan) (sys : System) (single : Memory) (first : ℕ) (rest : List 
 
 -- ---- what a block of lines gives
 
+module _ (r : Run) (rest : List ℕ) where
+  -- where no line is refused the run has come further
+  pub lines-further : numberOf (linesAnswer r rest .answer) ≡ 0 → 0 < length rest → r .frame < linesAnswer r rest .run .frame
+  unfolding linesAnswer lineLeft
+  lines-further e f = go (framesLeft r rest) refl
+    where
+      go : (n : ℕ) → framesLeft r rest ≡ n → r .frame < r .frame + framesLeft r rest
+      go zero q =
+          let z : framesLeft r rest * runLineSize (r .plan .sensors) < length rest = rw q (omega (arith, zero-mul (runLineSize (r .plan .sensors)))) in
+          absurd (let ten : 10 ≡ 0 = sym (rw (lt-ltb (framesLeft r rest * runLineSize (r .plan .sensors)) (length rest) z)) ∙ e in omega arith)
+      go (suc n) q = omega arith
+
+  pub lines-in-time : r .frame ≤ mostRunLines → linesAnswer r rest .run .frame ≤ mostRunLines
+  unfolding linesAnswer
+  lines-in-time e = omega (arith, frames-bound (r .plan) (r .system) (r .single) (r .frame) rest)
+
 module _ (r : Run) (rest out : List ℕ) (l : length rest ≤ blockLines * runLineSize (r .plan .sensors)) (m : blockLines * printedSize (r .plan .actuators) ≤ length out) where
-  lines-few : framesIn r rest ≤ blockLines
+  lines-few : framesLeft r rest ≤ blockLines
   lines-few =
       le-of-mul-le-mul-right {k = runLineSize (r .plan .sensors)}
-      (let f : framesIn r rest * runLineSize (r .plan .sensors) ≤ length rest = frames-fit (r .plan) (r .system) (r .single) (r .frame) rest in let z : framesIn r rest * runLineSize (r .plan .sensors) ≤ blockLines * runLineSize (r .plan .sensors) = omega arith in z)
+      (let f : framesLeft r rest * runLineSize (r .plan .sensors) ≤ length rest = frames-fit (r .plan) (r .system) (r .single) (r .frame) rest in let z : framesLeft r rest * runLineSize (r .plan .sensors) ≤ blockLines * runLineSize (r .plan .sensors) = omega arith in z)
       (omega arith)
 
   -- what is printed fits
-  pub lines-count : linesAnswer r rest .count ≤ length out
+  pub lines-most : linesAnswer r rest .count ≤ blockLines * printedSize (r .plan .actuators)
   unfolding linesAnswer
-  lines-count =
-      let k : framesIn r rest * printedSize (r .plan .actuators) ≤ blockLines * printedSize (r .plan .actuators) = mul-le-mul-right (printedSize (r .plan .actuators)) lines-few in
-      omega arith
+  lines-most = mul-le-mul-right (printedSize (r .plan .actuators)) lines-few
+
+  pub lines-count : linesAnswer r rest .count ≤ length out
+  lines-count = omega (arith, lines-most)
 
   pub lines-length : length (linesPlace r rest out) ≡ length out
   unfolding linesPlace printed linesAnswer
   lines-length =
-      let n : length (printedTo (r .plan) (r .system) (r .single) (r .frame) rest (framesIn r rest)) ≡ framesIn r rest * printedSize (r .plan .actuators) = printed-length (r .plan) (r .system) (r .single) (r .frame) rest (framesIn r rest) in
-      length-append (printedTo (r .plan) (r .system) (r .single) (r .frame) rest (framesIn r rest)) (drop (length (printedTo (r .plan) (r .system) (r .single) (r .frame) rest (framesIn r rest))) out)
-      ∙ rw (length-drop (length (printedTo (r .plan) (r .system) (r .single) (r .frame) rest (framesIn r rest))) out) (omega (arith, n, lines-count))
-
-  -- where no line is refused the run has come further
-  pub lines-further : numberOf (linesAnswer r rest .answer) ≡ 0 → 0 < length rest → r .frame < linesAnswer r rest .run .frame
-  unfolding linesAnswer lineLeft
-  lines-further e f = go (framesIn r rest) refl
-    where
-      go : (n : ℕ) → framesIn r rest ≡ n → r .frame < r .frame + framesIn r rest
-      go zero q =
-          let z : framesIn r rest * runLineSize (r .plan .sensors) < length rest = rw q (omega (arith, zero-mul (runLineSize (r .plan .sensors)))) in
-          absurd (let ten : 10 ≡ 0 = sym (rw (lt-ltb (framesIn r rest * runLineSize (r .plan .sensors)) (length rest) z)) ∙ e in omega arith)
-      go (suc n) q = omega arith
-
-  pub lines-in-time : r .frame ≤ mostLines → linesAnswer r rest .run .frame ≤ mostLines
-  unfolding linesAnswer
-  lines-in-time e = omega (arith, frames-bound (r .plan) (r .system) (r .single) (r .frame) rest)
+      let n : length (printedTo (r .plan) (r .system) (r .single) (r .frame) rest (framesLeft r rest)) ≡ framesLeft r rest * printedSize (r .plan .actuators) = printed-length (r .plan) (r .system) (r .single) (r .frame) rest (framesLeft r rest) in
+      length-append (printedTo (r .plan) (r .system) (r .single) (r .frame) rest (framesLeft r rest)) (drop (length (printedTo (r .plan) (r .system) (r .single) (r .frame) rest (framesLeft r rest))) out)
+      ∙ rw (length-drop (length (printedTo (r .plan) (r .system) (r .single) (r .frame) rest (framesLeft r rest))) out) (omega (arith, n, lines-count))
 
 -- all that a caller needs of them
 pub record Told (r : Run) (rest out to : List ℕ) (x : Printed) : Type 0 where
@@ -298,14 +300,14 @@ pub record Told (r : Run) (rest out to : List ℕ) (x : Printed) : Type 0 where
   pub same-length : length to ≡ length out
   pub same-plan : x .run .plan ≡ r .plan
   pub same-period : x .run .period ≡ r .period
-  pub in-time : x .run .frame ≤ mostLines
+  pub in-time : x .run .frame ≤ mostRunLines
   pub further : numberOf (x .answer) ≡ 0 → 0 < length rest → r .frame < x .run .frame
 
 pub lines-told :
     (r : Run) (rest out to : List ℕ) (x : Printed) →
     length rest ≤ blockLines * runLineSize (r .plan .sensors) →
     blockLines * printedSize (r .plan .actuators) ≤ length out →
-    r .frame ≤ mostLines →
+    r .frame ≤ mostRunLines →
     x ≡ linesAnswer r rest →
     to ≡ linesPlace r rest out →
     Told r rest out to x
@@ -317,6 +319,6 @@ lines-told r rest out to x l m n e f =
       same-length = k;
       same-plan = ap (λ (y : Printed). y .run .plan) e;
       same-period = ap (λ (y : Printed). y .run .period) e;
-      in-time = rw e (lines-in-time r rest out l m n);
-      further = rw e (lines-further r rest out l m);
+      in-time = rw e (lines-in-time r rest n);
+      further = rw e (lines-further r rest);
     }

@@ -14,7 +14,7 @@ use borrow.Rule.Slice.PartMut.{putMid}
 use Rattle.array.specs.Index.{fill}
 use Rattle.array.proofs.TestLaws.{split, clash, and-right}
 use Rattle.array.proofs.PlacesLaws.{fill-length}
-use Rattle.column.specs.Row.{numbersOf}
+use Rattle.column.specs.Row.{numbersShown}
 use Rattle.column.proofs.RowLaws.{total, room-count, room-of-numbers, numbers-length}
 use Rattle.plan.specs.declared.Plan.{Plan}
 use Rattle.plan.specs.Limits.{mostActuators}
@@ -24,10 +24,10 @@ use Rattle.system.specs.declared.System.{System}
 use Rattle.system.specs.Frame.{putOut, placeAfter}
 use Rattle.lines.specs.declared.step.Stepped.{Stepped}
 use Rattle.lines.specs.Line.{patternWidth, runWidths, runLineSize, maskIn, fillIn, inLimits, runNumbers}
-use Rattle.lines.specs.Listing.{mostLines, lineNumbers, systemNext, singleNext, frameLine}
+use Rattle.lines.specs.Listing.{mostRunLines, lineNumbers, systemNext, singleAfter, frameLine}
 use Rattle.lines.proofs.ReadingLaws.{length-bad}
 use Rattle.lines.proofs.WritingLaws.{total-of-columns}
-use Rattle.lines.specs.Step.{stepAnswer, stepPlace}
+use Rattle.lines.specs.Code.{stepAnswer, stepPlace}
 
 -- ---- the plane values
 
@@ -92,17 +92,17 @@ module _ (p : Plan) (sys : System) (sensors faults zeros place : List ℕ) (mask
 none-some : {l : List ℕ} → none ≡ some l → ⊥
 none-some e = let z : _≡_ {A = ℕ} 0 1 = cc in omega arith
 
-cond-same : {A : Type 0} (b : Bool) (x : A) → cond b x x ≡ x
+pub cond-same : {A : Type 0} (b : Bool) (x : A) → cond b x x ≡ x
 cond-same true x = refl
 cond-same false x = refl
 
-pub line-late : (p : Plan) (frame : ℕ) (line : List ℕ) → mostLines ≤ frame → lineNumbers p frame line ≡ none
+pub line-late : (p : Plan) (frame : ℕ) (line : List ℕ) → mostRunLines ≤ frame → lineNumbers p frame line ≡ none
 unfolding lineNumbers
-line-late p frame line l = rw (le-ltb frame mostLines l)
+line-late p frame line l = rw (le-ltb frame mostRunLines l)
 
-pub line-early : (p : Plan) (frame : ℕ) (line : List ℕ) → frame < mostLines → lineNumbers p frame line ≡ runNumbers (p .nodes) (p .sensors) line
+pub line-early : (p : Plan) (frame : ℕ) (line : List ℕ) → frame < mostRunLines → lineNumbers p frame line ≡ runNumbers (p .nodes) (p .sensors) line
 unfolding lineNumbers
-line-early p frame line l = rw (lt-ltb frame mostLines l)
+line-early p frame line l = rw (lt-ltb frame mostRunLines l)
 
 pub empty-of-length : (l : List ℕ) → length l ≡ 0 → l ≡ []
 empty-of-length [] e = refl
@@ -115,7 +115,7 @@ nothing-read n s = sym (length-bad n s [] (λ e. omega arith))
 pub nothing-numbers : (p : Plan) (frame : ℕ) → lineNumbers p frame (take (runLineSize (p .sensors)) []) ≡ none
 unfolding lineNumbers
 nothing-numbers p frame =
-    rw (take-nil {A = ℕ} (runLineSize (p .sensors)), nothing-read (p .nodes) (p .sensors)) (cond-same (ltb frame mostLines) none)
+    rw (take-nil {A = ℕ} (runLineSize (p .sensors)), nothing-read (p .nodes) (p .sensors)) (cond-same (ltb frame mostRunLines) none)
 
 -- what is known of numbers within the limits
 pub record Within (s : ℕ) (fill : ℕ) (vs : List ℕ) : Type 0 where
@@ -135,7 +135,7 @@ pub numbers-within :
     (n s : ℕ) (line : List ℕ) {mask fill : ℕ} {vs : List ℕ} → some (mask ∷ fill ∷ vs) ≡ runNumbers n s line → Within s fill vs
 unfolding runNumbers runWidths
 numbers-within n s line {mask} {fill} {vs} e =
-    let h = limits-of-some n (numbersOf (runWidths s) line) (mask ∷ fill ∷ vs) (sym e) in
+    let h = limits-of-some n (numbersShown (runWidths s) line) (mask ∷ fill ∷ vs) (sym e) in
     let c : length (mask ∷ fill ∷ vs) ≡ length (runWidths s) = room-count (runWidths s) (mask ∷ fill ∷ vs) (room-of-numbers (runWidths s) line (mask ∷ fill ∷ vs) (h .0)) in
     let r : length (runWidths s) ≡ suc (suc s) = ap (λ (k : ℕ). suc (suc k)) (length-replicate s patternWidth) in
     record { count = omega (arith, c, r); small = leb-true fill 255 (h .1) }
@@ -144,7 +144,7 @@ numbers-within n s line {mask} {fill} {vs} e =
 pub numbers-size : (n s : ℕ) (line l : List ℕ) → runNumbers n s line ≡ some l → length line ≡ runLineSize s
 unfolding runNumbers runWidths total
 numbers-size n s line l e =
-    let h = limits-of-some n (numbersOf (runWidths s) line) l e in
+    let h = limits-of-some n (numbersShown (runWidths s) line) l e in
     numbers-length (runWidths s) line l (h .0) ∙ rw (total-of-columns s) (omega arith)
 
 -- the patterns fit their array
@@ -170,12 +170,12 @@ module _ (p : Plan) (sys : System) (single : Memory) (frame : ℕ) (r : Stepped)
       first ≡ single →
       r .taken ≡ true →
       r .system ≡ systemNext p sys l →
-      r .single ≡ singleNext p first l →
+      r .single ≡ singleAfter p first l →
       out ≡ frameLine p sys first frame l →
       (r ≡ stepAnswer p sys single o) × (out ≡ stepPlace p sys single frame o place)
   unfolding stepAnswer stepPlace
   step-taken place l e m t a b f =
-      let g : r .single ≡ singleNext p single l = b ∙ rw m in
+      let g : r .single ≡ singleAfter p single l = b ∙ rw m in
       rw e ((λ i. record { taken = t i; system = a i; single = g i }), f ∙ rw m)
 
 -- what a step that was or was not taken says of the numbers
@@ -190,11 +190,11 @@ taken-some p sys single r none e t = absurd (clash t (ap (λ (x : Stepped). x .t
 taken-some p sys single r (some l) e t = (l, refl)
 
 -- a line that is run is not too late
-pub line-in-time : (p : Plan) (frame : ℕ) (line l : List ℕ) → lineNumbers p frame line ≡ some l → frame < mostLines
+pub line-in-time : (p : Plan) (frame : ℕ) (line l : List ℕ) → lineNumbers p frame line ≡ some l → frame < mostRunLines
 line-in-time p frame line l e =
-    split (ltb frame mostLines)
-    (λ t. ltb-true frame mostLines t)
+    split (ltb frame mostRunLines)
+    (λ t. ltb-true frame mostRunLines t)
     (λ t. absurd (none-some (sym (late t) ∙ e)))
   where
-    late : ltb frame mostLines ≡ false → lineNumbers p frame line ≡ none
-    late t = line-late p frame line (ltb-false frame mostLines t)
+    late : ltb frame mostRunLines ≡ false → lineNumbers p frame line ≡ none
+    late t = line-late p frame line (ltb-false frame mostRunLines t)

@@ -17,11 +17,11 @@ use Rattle.column.proofs.ColumnLaws.{column-length}
 use Rattle.column.proofs.RowLaws.{total, row-length}
 use Rattle.array.specs.Place.{placed}
 use Rattle.array.proofs.PlacedLaws.{placed-none, placed-length, placed-next}
-use Rattle.column.proofs.LaidLaws.{laid-none, lay}
+use Rattle.column.proofs.BufferLaws.{laid-none, lay}
 use Rattle.plan.specs.declared.Plan.{Plan}
 use Rattle.memory.specs.declared.Memory.{Memory}
 use Rattle.system.specs.declared.System.{System}
-use Rattle.lines.specs.Listing.{systemNext, planes, working, singleNext, agreeing, frameLine}
+use Rattle.lines.specs.Listing.{systemNext, planes, working, singleAfter, equal, frameLine}
 use Rattle.lines.specs.Line.{patternWidth, planesAt, printedWidths, printedSize, refusalLine, refusalSize}
 
 -- ---- a column at a place
@@ -84,7 +84,7 @@ row-of-columns (suc n) (v ∷ vs) =
     (ap (λ (l : List ℕ). column patternWidth v ++ l) (row-of-columns n vs))
 
 -- what fills its place
-placed-whole : (s t : List ℕ) → length t ≡ length s → placed s 0 t ≡ t
+pub placed-whole : (s t : List ℕ) → length t ≡ length s → placed s 0 t ≡ t
 placed-whole s t e = ap (λ (l : List ℕ). t ++ l) (drop-of-length-le s {i = 0 + length t} (omega arith)) ∙ append-nil t
 
 -- the line of a frame, in a place of its size
@@ -155,5 +155,5 @@ total-of-columns (suc n) = rw (total-of-columns n) (omega arith)
 pub frame-length : (p : Plan) (sys : System) (single : Memory) (frame : ℕ) (l : List ℕ) → length (frameLine p sys single frame l) ≡ printedSize (p .actuators)
 unfolding frameLine printedWidths total
 frame-length p sys single frame l =
-    row-length (printedWidths (p .actuators)) (frame ∷ working p sys l ∷ agreeing p (systemNext p sys l) (singleNext p single l) ∷ planes p sys l)
+    row-length (printedWidths (p .actuators)) (frame ∷ working p sys l ∷ equal p (systemNext p sys l) (singleAfter p single l) ∷ planes p sys l)
     ∙ rw (total-of-columns (p .actuators)) (omega arith)

@@ -1,4 +1,5 @@
 pub mod Line
 pub mod Listing
 pub mod Run
-pub mod Step
+pub mod Code
+pub mod Blocks

@@ -6,7 +6,7 @@ use mathlib.Core.Option.{Option, none, some}
 use Prim.Native.Nat.{ℕ, _+_, _*_, _^_}
 use lib.Dec.{leb, ltb}
 use lib.ListN.{getD, drop, replicate}
-use Rattle.column.specs.Row.{row, numbersOf}
+use Rattle.column.specs.Row.{row, numbersShown}
 use Rattle.answer.specs.declared.Answer.{Answer}
 use Rattle.answer.specs.Refusal.{numberOf, lineOf}
 
@@ -39,8 +39,8 @@ maskIn l = getD l 0 0
 abbrev pub fillIn : List ℕ → ℕ
 fillIn l = getD l 1 0
 
-abbrev pub sensorsIn : List ℕ → List ℕ
-sensorsIn l = drop 2 l
+abbrev pub patternsIn : List ℕ → List ℕ
+patternsIn l = drop 2 l
 
 -- "10: a line not of form, mask ≥ 2^n, fill > 255": the numbers of a line to which none of these applies
 unfoldable pub inLimits : ℕ → Option (List ℕ) → Option (List ℕ)
@@ -49,7 +49,7 @@ inLimits n (some l) = cond (ltb (maskIn l) (2 ^ n) && leb (fillIn l) 255) (some 
 
 -- under a plan of n nodes and s sensors
 unfoldable pub runNumbers : ℕ → ℕ → List ℕ → Option (List ℕ)
-runNumbers n s line = inLimits n (numbersOf (runWidths s) line)
+runNumbers n s line = inLimits n (numbersShown (runWidths s) line)
 
 -- ---- a line of the listing, with a actuators: "frame number from 0 (width 8), nodes working in it (4), nodes whose memory then equals the single
 -- controller's (4), A plane values (20 each)"

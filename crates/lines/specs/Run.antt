@@ -6,7 +6,7 @@ use lib.ListN.{take}
 use Rattle.plan.specs.Known.{period}
 use Rattle.lines.specs.declared.Run.{Run}
 use Rattle.lines.specs.Line.{runLineSize}
-use Rattle.lines.specs.Listing.{lineNumbers, systemNext, singleNext}
+use Rattle.lines.specs.Listing.{lineNumbers, systemNext, singleAfter}
 
 -- the state after a frame from the line's numbers l. The period handed in counts for nothing: it is the plan's.
 unfoldable pub runAfter : Run → List ℕ → Run
@@ -15,7 +15,7 @@ runAfter r l =
       plan = r .plan;
       period = period (r .plan);
       system = systemNext (r .plan) (r .system) l;
-      single = singleNext (r .plan) (r .single) l;
+      single = singleAfter (r .plan) (r .single) l;
       frame = r .frame + 1;
     }
 

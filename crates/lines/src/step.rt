@@ -16,10 +16,10 @@ ghost use Rattle.array.specs.Place.{placed};
 ghost use Rattle.plan.specs.Sizes.{sizesOf};
 ghost use Rattle.system.specs.Fault.{faultsSize};
 ghost use Rattle.faults.specs.Code.{Parts, Held, BadHold};
-ghost use Rattle.rows.specs.Rows.{rowCount, wordCount, memoryIn, Rows};
+ghost use Rattle.rows.specs.Code.{rowCount, wordCount, memoryIn, Rows};
 ghost use Rattle.lines.specs.Line.{runLineSize, printedWidths, printedSize, patternWidth, sensorsAt, runNumbers, planesAt, refusalLine, refusalSize};
-ghost use Rattle.lines.specs.Listing.{mostLines, lineNumbers, systemNext, singleNext, frameLine};
-ghost use Rattle.lines.specs.Step.{blockLines, stepAnswer, stepPlace, printedWith, linesAnswer, linesPlace, ifRead, lineRead};
+ghost use Rattle.lines.specs.Listing.{mostRunLines, lineNumbers, systemNext, singleAfter, frameLine};
+ghost use Rattle.lines.specs.Code.{blockLines, stepAnswer, stepPlace, printedWith, linesAnswer, linesPlace, ifRead, lineRead};
 use super::Printed;
 use super::Run;
 use answer::Answer;
@@ -48,7 +48,7 @@ const FRAME: usize = 8;
 
 const WORKING: usize = 12;
 
-const AGREEING: usize = 16;
+const EQUAL: usize = 16;
 
 // A count's column.
 const COUNT: usize = 4;
@@ -143,10 +143,10 @@ fn put_planes(out: &mut [u8], planes: &[u64; Plan::ACTUATORS], count: usize)
 {
     let mut a: usize = 0;
     while a < count {
-        put(out, AGREEING + PATTERN * a, PATTERN, planes[a]);
+        put(out, EQUAL + PATTERN * a, PATTERN, planes[a]);
         a += 1;
     }
-    out[AGREEING + PATTERN * count] = b'\n';
+    out[EQUAL + PATTERN * count] = b'\n';
 }
 
 // The line of a frame.
@@ -154,16 +154,16 @@ fn write_frame(
     out: &mut [u8],
     frame: usize,
     working: usize,
-    agreeing: usize,
+    equal: usize,
     planes: &[u64; Plan::ACTUATORS],
     count: usize,
 )
     requires { ⌜ (count ≤ mostActuators) × (length (now out) ≡ printedSize count) ⌝ }
-    ensures { λ _. ⌜ now (out .exit) ≡ row (printedWidths count) (frame ∷ working ∷ agreeing ∷ take count (now (planes .entry))) ⌝ }
+    ensures { λ _. ⌜ now (out .exit) ≡ row (printedWidths count) (frame ∷ working ∷ equal ∷ take count (now (planes .entry))) ⌝ }
 {
     put(out, 0, FRAME, frame as u64);
     put(out, FRAME, COUNT, working as u64);
-    put(out, WORKING, COUNT, agreeing as u64);
+    put(out, WORKING, COUNT, equal as u64);
     put_planes(out, planes, count);
 }
 
@@ -197,7 +197,7 @@ pub fn printed_size(actuators: usize) -> usize
     requires { ⌜ actuators ≤ mostActuators ⌝ }
     ensures { λ r. ⌜ r ≡ printedSize actuators ⌝ }
 {
-    AGREEING + PATTERN * actuators + 1
+    EQUAL + PATTERN * actuators + 1
 }
 
 // Where the part of `size` from a place on ends, in bytes of a length.
@@ -230,7 +230,7 @@ fn frame_numbers(
     patterns: &mut [u64; Plan::SENSORS],
 ) -> LineRead
     requires { ⌜ (nodes ≤ mostNodes) × (sensors ≤ mostSensors) ⌝ }
-    ensures { λ r. ⌜ lineRead r (take sensors (now (patterns .exit))) ≡ cond (ltb frame mostLines) (runNumbers nodes sensors (now (line .entry))) none ⌝ }
+    ensures { λ r. ⌜ lineRead r (take sensors (now (patterns .exit))) ≡ cond (ltb frame mostRunLines) (runNumbers nodes sensors (now (line .entry))) none ⌝ }
 {
     if LINES <= frame {
         return LineRead::Refused;
@@ -252,7 +252,7 @@ fn finish_line(
     out: &mut [u8],
 )
     requires { ⌜ (accepted plan ≡ true) × (s ≡ sizesOf plan) × (length (now sensors) ≡ plan .sensors) × Parts s mask (length (now faults)) × (length (now counters) ≡ rowCount) × (length (now cells) ≡ wordCount) × (length (now out) ≡ printedSize (plan .actuators)) ⌝ }
-    ensures { λ _. ⌜ ((sys : System) (x : ℕ) → Rows sys (now (counters .entry)) (now (cells .entry)) (now (good .entry)) → BadHold s mask (now (faults .entry)) x → Rows (systemNext plan sys (mask ∷ x ∷ now (sensors .entry))) (now (counters .exit)) (now (cells .exit)) (now (good .exit)) × (memoryIn (now (counters .exit)) (now (cells .exit)) 0 ≡ singleNext plan (memoryIn (now (counters .entry)) (now (cells .entry)) 0) (mask ∷ x ∷ now (sensors .entry))) × (now (out .exit) ≡ frameLine plan sys (memoryIn (now (counters .entry)) (now (cells .entry)) 0) frame (mask ∷ x ∷ now (sensors .entry)))) ⌝ }
+    ensures { λ _. ⌜ ((sys : System) (x : ℕ) → Rows sys (now (counters .entry)) (now (cells .entry)) (now (good .entry)) → BadHold s mask (now (faults .entry)) x → Rows (systemNext plan sys (mask ∷ x ∷ now (sensors .entry))) (now (counters .exit)) (now (cells .exit)) (now (good .exit)) × (memoryIn (now (counters .exit)) (now (cells .exit)) 0 ≡ singleAfter plan (memoryIn (now (counters .entry)) (now (cells .entry)) 0) (mask ∷ x ∷ now (sensors .entry))) × (now (out .exit) ≡ frameLine plan sys (memoryIn (now (counters .entry)) (now (cells .entry)) 0) frame (mask ∷ x ∷ now (sensors .entry)))) ⌝ }
 {
     let nodes = s.nodes;
     let actuators = s.actuators;
@@ -270,8 +270,8 @@ fn finish_line(
         good,
         &mut planes[0..actuators],
     );
-    let agreeing = rows::step::agreeing(counters, cells, nodes, s.cells);
-    write_frame(out, frame, working, agreeing, &planes, actuators);
+    let equal = rows::step::equal(counters, cells, nodes, s.cells);
+    write_frame(out, frame, working, equal, &planes, actuators);
 }
 
 // A line by itself, with fault bytes of its own where a node is bad.
@@ -288,7 +288,7 @@ fn line_alone(
     out: &mut [u8],
 )
     requires { ⌜ (accepted plan ≡ true) × (s ≡ sizesOf plan) × (length (now sensors) ≡ plan .sensors) × (fill ≤ 255) × (length (now counters) ≡ rowCount) × (length (now cells) ≡ wordCount) × (length (now out) ≡ printedSize (plan .actuators)) ⌝ }
-    ensures { λ _. ⌜ ((sys : System) → Rows sys (now (counters .entry)) (now (cells .entry)) (now (good .entry)) → Rows (systemNext plan sys (mask ∷ fill ∷ now (sensors .entry))) (now (counters .exit)) (now (cells .exit)) (now (good .exit)) × (memoryIn (now (counters .exit)) (now (cells .exit)) 0 ≡ singleNext plan (memoryIn (now (counters .entry)) (now (cells .entry)) 0) (mask ∷ fill ∷ now (sensors .entry))) × (now (out .exit) ≡ frameLine plan sys (memoryIn (now (counters .entry)) (now (cells .entry)) 0) frame (mask ∷ fill ∷ now (sensors .entry)))) ⌝ }
+    ensures { λ _. ⌜ ((sys : System) → Rows sys (now (counters .entry)) (now (cells .entry)) (now (good .entry)) → Rows (systemNext plan sys (mask ∷ fill ∷ now (sensors .entry))) (now (counters .exit)) (now (cells .exit)) (now (good .exit)) × (memoryIn (now (counters .exit)) (now (cells .exit)) 0 ≡ singleAfter plan (memoryIn (now (counters .entry)) (now (cells .entry)) 0) (mask ∷ fill ∷ now (sensors .entry))) × (now (out .exit) ≡ frameLine plan sys (memoryIn (now (counters .entry)) (now (cells .entry)) 0) frame (mask ∷ fill ∷ now (sensors .entry)))) ⌝ }
 {
     if mask == 0 {
         finish_line(
@@ -404,7 +404,7 @@ pub fn lines(
     faults: &mut [u8],
     out: &mut [u8],
 ) -> Printed
-    requires { ⌜ (accepted (run .plan) ≡ true) × (run .period ≡ periodOf (run .plan)) × (run .frame ≤ mostLines) × (length (now rest) ≤ blockLines * runLineSize (run .plan .sensors)) × (length (now held) ≡ mostNodes) × (length (now faults) ≡ faultsSize (sizesOf (run .plan))) × Held (sizesOf (run .plan)) (now held) (now faults) × (blockLines * printedSize (run .plan .actuators) ≤ length (now out)) ⌝ }
+    requires { ⌜ (accepted (run .plan) ≡ true) × (run .period ≡ periodOf (run .plan)) × (run .frame ≤ mostRunLines) × (length (now rest) ≤ blockLines * runLineSize (run .plan .sensors)) × (length (now held) ≡ mostNodes) × (length (now faults) ≡ faultsSize (sizesOf (run .plan))) × Held (sizesOf (run .plan)) (now held) (now faults) × (blockLines * printedSize (run .plan .actuators) ≤ length (now out)) ⌝ }
     ensures { λ r. ⌜ (r ≡ linesAnswer run (now (rest .entry))) × (length (now (held .exit)) ≡ mostNodes) × Held (sizesOf (run .plan)) (now (held .exit)) (now (faults .exit)) × (now (out .exit) ≡ linesPlace run (now (rest .entry)) (now (out .entry))) ⌝ }
 {
     let plan = run.plan;

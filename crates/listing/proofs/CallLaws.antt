@@ -1,6 +1,6 @@
 -- What the calls on a run answer, one law for each way out.
 use mathlib.Core.Path.{_≡_, refl, sym, ap, _∙_}
-use mathlib.Core.Bool.{Bool, true, false, not, _&&_}
+use mathlib.Core.Bool.{Bool, true, false, not, cond, _&&_, _||_}
 use mathlib.Core.List.{List, [], append-nil}
 use mathlib.Core.Option.{Option, none, some, Option·getD}
 use Prim.Native.Nat.{ℕ, _+_, _-_, _≤_, _<_, min}
@@ -14,20 +14,21 @@ use borrow.Rule.Slice.PartMut.{putMid}
 use Rattle.array.proofs.TestLaws.{and-false-right}
 use Rattle.answer.specs.declared.Answer.{Answer}
 use Rattle.answer.specs.declared.Answer.the-variants.{Done, InvalidPlan, WrongLength, MaskOrCount, RunLine}
-use Rattle.answer.specs.Refusal.{numberOf}
+use Rattle.answer.specs.Refusal.{numberOf, lineOf}
+use Rattle.answer.specs.Tests.{numberIn, lineIn, passed, answerOf, answered, ifPassed, unlessRefused}
+use Rattle.answer.proofs.TestLaws.{AllNamed, named-by, answered-number, answered-line}
 use Rattle.plan.specs.declared.Plan.{Plan}
 use Rattle.plan.specs.Known.{period}
 use Rattle.plan.specs.Accepted.{accepted, wellFormed, headerOk, storable}
-use Rattle.recovery.specs.Answers.{acceptedPeriod}
+use Rattle.plan_period.specs.Answers.{planTests, acceptedPeriod}
 use Rattle.plan_text.specs.declared.PlanRead.{PlanRead}
-use Rattle.text.specs.Meant.{zeroPlan, planOf}
-use Rattle.text.specs.Refused.{textRefusal}
+use Rattle.plan_grammar.specs.Meant.{zeroPlan, planOf}
+use Rattle.plan_grammar.specs.Refused.{textRefusal}
 use Rattle.plan_text.specs.Answers.{readAnswer}
-use Rattle.plan_text.specs.Answers as text
 use Rattle.array.specs.Place.{placed}
-use Rattle.text.proofs.RefusedLaws.{refusal-numbered}
+use Rattle.plan_grammar.proofs.RefusedLaws.{refusal-numbered}
 use Rattle.plan_text.proofs.TextLaws.{read-plan}
-use Rattle.node.specs.declared.Outcome.{Outcome}
+use Rattle.memory.specs.declared.Outcome.{Outcome}
 use Rattle.memory.specs.Node.{zeroMemory, poweredOn}
 use Rattle.node.specs.Answers as node
 use Rattle.system.specs.declared.Started.{Started as Began}
@@ -39,10 +40,10 @@ use Rattle.listing.specs.declared.Started.{Started}
 use Rattle.lines.specs.declared.Printed.{Printed}
 use Rattle.lines.specs.declared.step.Stepped.{Stepped}
 use Rattle.lines.specs.Line.{runLineSize, printedSize, refusalLine, refusalSize}
-use Rattle.lines.specs.Listing.{mostLines, lineNumbers, frameLine}
+use Rattle.lines.specs.Listing.{mostRunLines, isSome, lineNumbers, frameLine}
 use Rattle.lines.specs.Run.{runAfter, nextNumbers}
-use Rattle.listing.specs.Answers.{zeroRun, startOf, unlessRefused, startAnswer, inTurn, inOrder, lineAnswer, taken, runTaken, nextAnswer, placeTaken, nextPlace, refusalWritten, refusalPlace}
-use Rattle.lines.specs.Step.{stepAnswer, stepPlace, takenOr, lineTaken}
+use Rattle.listing.specs.Answers.{zeroRun, startOf, startAnswer, lineTest, nextTests, taken, runTaken, nextAnswer, placeTaken, nextPlace, refusalTests, refusalWritten, refusalPlace}
+use Rattle.lines.specs.Code.{stepAnswer, stepPlace, takenOr, lineTaken}
 use Rattle.lines.proofs.StepLaws.{empty-of-length, nothing-numbers, taken-none, taken-some, line-in-time}
 use Rattle.lines.proofs.WritingLaws.{frame-length}
 
@@ -56,11 +57,11 @@ min-above a b l = min-eq-right l
 
 module _ (a : Answer) (out : List ℕ) where
   pub refusal-short : length out < refusalSize → (record { answer = WrongLength; count = 0 } ≡ refusalWritten a (length out)) × (out ≡ refusalPlace a out)
-  unfolding refusalWritten refusalPlace
+  unfolding refusalWritten refusalPlace refusalTests answered passed ifPassed answerOf
   refusal-short l = rw (lt-leb refusalSize (length out) l) (refl, refl)
 
   pub refusal-none : refusalSize ≤ length out → numberOf a ≡ 0 → (record { answer = Done; count = 0 } ≡ refusalWritten a (length out)) × (out ≡ refusalPlace a out)
-  unfolding refusalWritten refusalPlace
+  unfolding refusalWritten refusalPlace refusalTests answered passed ifPassed answerOf
   refusal-none l e = rw (le-leb refusalSize (length out) l, eq-eqb (numberOf a) 0 e) (refl, refl)
 
   pub refusal-written :
@@ -70,7 +71,7 @@ module _ (a : Answer) (out : List ℕ) where
       length (refusalLine a) ≡ refusalSize →
       to ≡ placed out 0 (refusalLine a) →
       (record { answer = Done; count = refusalSize } ≡ refusalWritten a (length out)) × (to ≡ refusalPlace a out)
-  unfolding refusalWritten refusalPlace
+  unfolding refusalWritten refusalPlace refusalTests answered passed ifPassed answerOf
   refusal-written l e k f = rw (le-leb refusalSize (length out) l, ne-eqb (numberOf a) 0 e) (refl, f ∙ rw k)
 
 -- ---- start
@@ -80,12 +81,12 @@ unfolding accepted wellFormed headerOk
 zero-refused = ap (λ (b : Bool). b && not (eqb (period zeroPlan) 0)) (and-false-right (storable zeroPlan) refl)
 
 -- what the calls give of a plan: the run at power-on, or the all-zero one
-module _ (p : Plan) (n : ℕ) (started : Began) (powered : Outcome) (f : n ≡ acceptedPeriod p) (g : started ≡ power.powerOnAnswer p) (h : powered ≡ node.powerOnAnswer p) where
+module _ (p : Plan) (n : ℕ) (started : Began) (powered : Outcome) (f : n ≡ acceptedPeriod p) (g : started ≡ power.systemPowerOnAnswer p) (h : powered ≡ node.powerOnAnswer p) where
   abbrev begun : Run
   begun = record { plan = p; period = n; system = started .system; single = powered .memory; frame = 0 }
 
   begun-accepted : accepted p ≡ true → begun ≡ startOf p
-  unfolding startOf acceptedPeriod power.powerOnAnswer node.powerOnAnswer
+  unfolding startOf acceptedPeriod power.systemPowerOnAnswer node.powerOnAnswer planTests passed ifPassed
   begun-accepted a =
       let x : n ≡ period p = f ∙ rw a in
       let y : started .system ≡ power.powerOn p = ap (λ (t : Began). t .system) g ∙ rw a in
@@ -93,7 +94,7 @@ module _ (p : Plan) (n : ℕ) (started : Began) (powered : Outcome) (f : n ≡ a
       λ i. record { plan = p; period = x i; system = y i; single = z i; frame = 0 }
 
   begun-zero : p ≡ zeroPlan → begun ≡ zeroRun
-  unfolding acceptedPeriod power.powerOnAnswer node.powerOnAnswer
+  unfolding acceptedPeriod power.systemPowerOnAnswer node.powerOnAnswer planTests passed ifPassed
   begun-zero e =
       let a : accepted p ≡ false = ap accepted e ∙ zero-refused in
       let x : n ≡ 0 = f ∙ rw a in
@@ -105,10 +106,10 @@ module _ (s : List ℕ) (read : PlanRead) (started : Began) (powered : Outcome) 
   pub start-answer :
       read ≡ readAnswer s →
       n ≡ acceptedPeriod (read .plan) →
-      started ≡ power.powerOnAnswer (read .plan) →
+      started ≡ power.systemPowerOnAnswer (read .plan) →
       powered ≡ node.powerOnAnswer (read .plan) →
       record { answer = read .answer; run = record { plan = read .plan; period = n; system = started .system; single = powered .memory; frame = 0 } } ≡ startAnswer s
-  unfolding startAnswer readAnswer text.unlessRefused unlessRefused
+  unfolding startAnswer readAnswer unlessRefused
   start-answer e f g h = go (textRefusal s) refl
     where
       go : (o : Option Answer) → textRefusal s ≡ o → record { answer = read .answer; run = begun (read .plan) n started powered f g h } ≡ startAnswer s
@@ -129,7 +130,7 @@ pub start-accepted :
     (s : List ℕ) (x : Started) →
     x ≡ startAnswer s →
     numberOf (x .answer) ≡ 0 →
-    (accepted (x .run .plan) ≡ true) × (x .run .period ≡ period (x .run .plan)) × (x .run .frame ≤ mostLines)
+    (accepted (x .run .plan) ≡ true) × (x .run .period ≡ period (x .run .plan)) × (x .run .frame ≤ mostRunLines)
 unfolding startAnswer unlessRefused startOf
 start-accepted s x e n = rw e (go (textRefusal s) refl (ap (λ (y : Started). numberOf (y .answer)) (sym e) ∙ n))
   where
@@ -137,7 +138,7 @@ start-accepted s x e n = rw e (go (textRefusal s) refl (ap (λ (y : Started). nu
         (o : Option Answer) →
         textRefusal s ≡ o →
         numberOf (Option·getD (textRefusal s) Done) ≡ 0 →
-        (accepted (unlessRefused (textRefusal s) (startOf (planOf s)) .plan) ≡ true) × (unlessRefused (textRefusal s) (startOf (planOf s)) .period ≡ period (unlessRefused (textRefusal s) (startOf (planOf s)) .plan)) × (unlessRefused (textRefusal s) (startOf (planOf s)) .frame ≤ mostLines)
+        (accepted (unlessRefused (textRefusal s) (startOf (planOf s)) zeroRun .plan) ≡ true) × (unlessRefused (textRefusal s) (startOf (planOf s)) zeroRun .period ≡ period (unlessRefused (textRefusal s) (startOf (planOf s)) zeroRun .plan)) × (unlessRefused (textRefusal s) (startOf (planOf s)) zeroRun .frame ≤ mostRunLines)
     go none q = rw q (λ m. (read-plan s q, refl, omega arith))
     go (some a) q = rw q (λ m. absurd (refusal-numbered s a q m))
 
@@ -147,6 +148,13 @@ pub nothing-next : (r : Run) → nextNumbers r [] ≡ none
 unfolding nextNumbers
 nothing-next r = nothing-numbers (r .plan) (r .frame)
 
+-- a line that is refused has no numbers
+pub kept : (ended : Bool) (o : Option (List ℕ)) → cond ((ended || isSome o) && true) o none ≡ o
+kept true none = refl
+kept false none = refl
+kept true (some l) = refl
+kept false (some l) = refl
+
 module _ (r : Run) (rest : List ℕ) (out : List ℕ) (x : Printed) where
   -- a call that is refused, or finds nothing left
   abbrev Still : Answer → Type 0
@@ -155,22 +163,22 @@ module _ (r : Run) (rest : List ℕ) (out : List ℕ) (x : Printed) where
   abbrev Answered : List ℕ → Type 0
   Answered to = (x ≡ nextAnswer r rest (length out)) × (to ≡ nextPlace r rest out)
 
-  still-is : (a : Answer) → Still a → taken r rest (length out) ≡ none → inTurn r (length out) (lineAnswer r rest) ≡ a → Answered out
+  still-is : (a : Answer) → Still a → taken r rest (length out) ≡ none → answered (nextTests r rest (length out)) ≡ a → Answered out
   unfolding nextAnswer nextPlace runTaken placeTaken
   still-is a h t e = rw (t, e) ((λ i. record { answer = h .0 i; count = h .1 i; run = h .2 i }), refl)
 
   pub next-plan : accepted (r .plan) ≡ false → Still InvalidPlan → Answered out
-  unfolding taken inOrder inTurn
+  unfolding taken nextTests answered passed ifPassed answerOf
   next-plan a h = still-is InvalidPlan h (rw a) (rw a)
 
   module _ (a : accepted (r .plan) ≡ true) where
     pub next-counts : countsOk (r .plan) (r .system) ≡ false → Still MaskOrCount → Answered out
-    unfolding taken inOrder inTurn
+    unfolding taken nextTests answered passed ifPassed answerOf
     next-counts b h = still-is MaskOrCount h (rw (a, b)) (rw (a, b))
 
     module _ (b : countsOk (r .plan) (r .system) ≡ true) where
       pub next-room : length out < printedSize (r .plan .actuators) → Still WrongLength → Answered out
-      unfolding taken inOrder inTurn
+      unfolding taken nextTests answered passed ifPassed answerOf
       next-room l h =
           let c : leb (printedSize (r .plan .actuators)) (length out) ≡ false = lt-leb (printedSize (r .plan .actuators)) (length out) l in
           still-is WrongLength h (rw (a, b, c)) (rw (a, b, c))
@@ -180,10 +188,10 @@ module _ (r : Run) (rest : List ℕ) (out : List ℕ) (x : Printed) where
         c = le-leb (printedSize (r .plan .actuators)) (length out) l
 
         pub next-ended : length rest ≡ 0 → Still Done → Answered out
-        unfolding taken inOrder inTurn lineAnswer
+        unfolding taken nextTests answered passed ifPassed answerOf lineTest
         next-ended e h =
             let n : rest ≡ [] = empty-of-length rest e in
-            still-is Done h (rw (a, b, c) (ap (nextNumbers r) n ∙ nothing-next r)) (rw (a, b, c, eq-eqb (length rest) 0 e))
+            still-is Done h (rw (a, b, c) (kept (eqb (length rest) 0) (nextNumbers r rest) ∙ ap (nextNumbers r) n ∙ nothing-next r)) (rw (a, b, c, eq-eqb (length rest) 0 e))
 
         -- a line that is refused or run, its place lent
         pub next-taken :
@@ -193,7 +201,7 @@ module _ (r : Run) (rest : List ℕ) (out : List ℕ) (x : Printed) where
             x ≡ lineTaken r rest →
             to ≡ placeTaken r (nextNumbers r rest) (take (m - 0) out) →
             Answered (putMid 0 (m - 0) out to)
-        unfolding lineTaken takenOr nextAnswer nextPlace taken inOrder inTurn lineAnswer runTaken placeTaken
+        unfolding lineTaken takenOr nextAnswer nextPlace taken nextTests lineTest answered passed ifPassed answerOf runTaken placeTaken
         next-taken {to} {m} v e f g = go (nextNumbers r rest) refl
           where
             n : m - 0 ≡ printedSize (r .plan .actuators)
@@ -205,13 +213,32 @@ module _ (r : Run) (rest : List ℕ) (out : List ℕ) (x : Printed) where
             go : (o : Option (List ℕ)) → nextNumbers r rest ≡ o → Answered (putMid 0 (m - 0) out to)
             go none q =
                 let u : to ≡ take (printedSize (r .plan .actuators)) out = g ∙ rw (q, n) in
-                (f ∙ rw (a, b, c, q, ne), rw (a, b, c, q, n, u) (take-append-drop (printedSize (r .plan .actuators)) out))
+                (f ∙ rw (a, b, c, q, ne), rw (a, b, c, q, ne, n, u) (take-append-drop (printedSize (r .plan .actuators)) out))
             go (some k) q =
                 let line : List ℕ = frameLine (r .plan) (r .system) (r .single) (r .frame) k in
                 let d : drop (printedSize (r .plan .actuators)) (take (printedSize (r .plan .actuators)) out) ≡ [] =
                 drop-of-length-le (take (printedSize (r .plan .actuators)) out) {i = printedSize (r .plan .actuators)} (omega (arith, length-take-le (printedSize (r .plan .actuators)) out l)) in
                 let u : to ≡ line = g ∙ rw (q, n, d) (append-nil line) in
-                (f ∙ rw (a, b, c, q, ne), rw (a, b, c, q, n, u))
+                (f ∙ rw (a, b, c, q, ne), rw (a, b, c, q, ne, n, u))
+
+-- the refusal's number and line are those of the first test that fails
+module _ (r : Run) (rest : List ℕ) (room : ℕ) where
+  next-named : AllNamed (nextTests r rest room)
+  unfolding nextTests lineTest AllNamed
+  next-named =
+      (named-by InvalidPlan _, (named-by MaskOrCount _, (named-by WrongLength _, (named-by (RunLine (min (r .frame) mostRunLines + 1)) _, tt))))
+
+  pub next-number : numberOf (nextAnswer r rest room .answer) ≡ numberIn (nextTests r rest room)
+  unfolding nextAnswer
+  next-number = answered-number (nextTests r rest room) next-named
+
+  pub next-at-line : lineOf (nextAnswer r rest room .answer) ≡ lineIn (nextTests r rest room)
+  unfolding nextAnswer
+  next-at-line = answered-line (nextTests r rest room) next-named
+
+pub refusal-number : (a : Answer) (room : ℕ) → numberOf (refusalWritten a room .answer) ≡ numberIn (refusalTests room)
+unfolding refusalWritten refusalTests AllNamed
+refusal-number a room = answered-number (refusalTests room) (named-by WrongLength _, tt)
 
 -- ---- the line of a state that is not refused
 
@@ -223,14 +250,14 @@ module _ (r : Run) (rest out line b : List ℕ) (s : Stepped) (size : length out
   pub line-refused :
       (x : Printed) →
       s .taken ≡ false →
-      (x .answer ≡ RunLine (min (r .frame) mostLines + 1)) × (x .count ≡ 0) × (x .run ≡ r) →
+      (x .answer ≡ RunLine (min (r .frame) mostRunLines + 1)) × (x .count ≡ 0) × (x .run ≡ r) →
       (x ≡ lineTaken r rest) × (b ≡ placeTaken r (nextNumbers r rest) out)
   unfolding lineTaken takenOr placeTaken stepPlace
   line-refused x t h =
       let o : lineNumbers (r .plan) (r .frame) line ≡ none = taken-none (r .plan) (r .system) (r .single) s (lineNumbers (r .plan) (r .frame) line) e t in
       rw (← numbers-are, o) ((λ i. record { answer = h .0 i; count = h .1 i; run = h .2 i }), g ∙ rw o)
 
-  pub line-in-range : s .taken ≡ true → r .frame < mostLines
+  pub line-in-range : s .taken ≡ true → r .frame < mostRunLines
   line-in-range t =
       let k = taken-some (r .plan) (r .system) (r .single) s (lineNumbers (r .plan) (r .frame) line) e t in
       line-in-time (r .plan) (r .frame) line (k .0) (k .1)

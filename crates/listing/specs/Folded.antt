@@ -8,7 +8,8 @@ use lib.ListN.{take, drop, replicate}
 use Rattle.lines.specs.declared.Run.{Run}
 use Rattle.lines.specs.declared.Printed.{Printed}
 use Rattle.lines.specs.Line.{runLineSize, printedSize, refusalLine}
-use Rattle.lines.specs.Listing.{mostLines}
+use Rattle.lines.specs.Listing.{mostRunLines}
+use Rattle.lines.specs.Blocks.{blocksListing}
 use Rattle.listing.specs.Answers.{startAnswer, nextAnswer, nextPlace, isDone}
 
 -- a buffer for a line
@@ -30,5 +31,10 @@ printedBy (suc k) r rest =
 
 unfoldable pub folded : List ℕ → List ℕ → List ℕ
 folded plan run =
-    cond (isDone (startAnswer plan .answer)) (printedBy (suc mostLines) (startAnswer plan .run) run)
+    cond (isDone (startAnswer plan .answer)) (printedBy (suc mostRunLines) (startAnswer plan .run) run)
     (refusalLine (startAnswer plan .answer))
+
+-- the run in blocks, as the program reads it
+unfoldable pub byBlocks : List ℕ → List (List ℕ) → List ℕ
+byBlocks plan blocks =
+    cond (isDone (startAnswer plan .answer)) (blocksListing (startAnswer plan .run) blocks) (refusalLine (startAnswer plan .answer))

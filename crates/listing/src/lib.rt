@@ -7,10 +7,10 @@ ghost use Rattle.answer.specs.declared.Answer.the-variants.{RunLine};
 ghost use Rattle.plan.specs.Known.{period as periodOf};
 ghost use Rattle.plan.specs.Accepted.{accepted};
 ghost use Rattle.lines.specs.Line.{printedSize};
-ghost use Rattle.lines.specs.Listing.{mostLines};
+ghost use Rattle.lines.specs.Listing.{mostRunLines};
 ghost use Rattle.lines.specs.Run.{nextNumbers};
 ghost use Rattle.listing.specs.Answers.{startAnswer, placeTaken, nextAnswer, nextPlace, refusalWritten, refusalPlace};
-ghost use Rattle.lines.specs.Step.{lineTaken};
+ghost use Rattle.lines.specs.Code.{lineTaken};
 use answer::Answer;
 use lines::Printed;
 use lines::Run;
@@ -59,7 +59,7 @@ fn nothing(answer: Answer, run: Run) -> Printed
 
 // 10 for the line of a frame, that of frame 100,000 for every later one.
 fn refused_line(frame: usize) -> Answer
-    ensures { λ r. ⌜ r ≡ RunLine (min frame mostLines + 1) ⌝ }
+    ensures { λ r. ⌜ r ≡ RunLine (min frame mostRunLines + 1) ⌝ }
 {
     if frame < lines::step::LINES {
         return Answer::RunLine(frame + 1);
@@ -103,7 +103,7 @@ pub fn next(run: Run, rest: &[u8], out: &mut [u8]) -> Printed
 {
     let plan = run.plan;
     let system = run.system;
-    let period = recovery::accepted_period(plan);
+    let period = plan_period::accepted_period(plan);
     if period == 0 {
         return nothing(Answer::InvalidPlan, run);
     }

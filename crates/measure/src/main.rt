@@ -1,5 +1,5 @@
 // Repeats one call on the plan in `plan.txt`, so that bench/ can count what it costs: the difference between two counts of repeats.
-// Standard input has a row: what (width 4) and how often (8). 1: plan_text::read. 2: recovery::check. 3: a node's compute, message and vote. 4: a
+// Standard input has a row: what (width 4) and how often (8). 1: plan_text::read. 2: plan_period::check. 3: a node's compute, message and vote. 4: a
 // frame of the whole system, frame::frame. 5: the same with node 0 bad. It prints a sum of what the calls gave.
 use libc::STDIN_FILENO;
 use libc::STDOUT_FILENO;
@@ -37,7 +37,7 @@ fn check_often(plan: Plan, times: u64) -> u64 {
     let mut k: u64 = 0;
     while k < times {
         p.initial[0] = k;
-        let answer = recovery::check(p);
+        let answer = plan_period::check(p);
         sum = (sum + answer.number() as u64 % 16) % 1000;
         k += 1;
     }

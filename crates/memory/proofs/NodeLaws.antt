@@ -44,11 +44,6 @@ module _ (p : Plan) where
     unfolding poweredOn
     poweredOn-bounded = s .initial-small
 
-    -- zero past C
-    pub poweredOn-past : (c : ℕ) → p .cells ≤ c → getD (poweredOn p .cells) c 0 ≡ 0
-    unfolding poweredOn
-    poweredOn-past = s .initial-zero
-
 -- ---- compute
 
 module _ (p : Plan) (sensors : List ℕ) (m : Memory) where

@@ -27,7 +27,7 @@ use Rattle.task.specs.Task.{opValue, runTask, runTasks}
 use Rattle.ballot.specs.Majority.{majority, orOwn}
 use Rattle.ballot.specs.Code.{packed, Told}
 use Rattle.memory.specs.Node.{computed, before, sentCell, messageOf, counterFrom, cellFrom, counterIn, cellIn, votedCounter, votedCell, voted, setpoint}
-use Rattle.ballot.proofs.ToldLaws.{told-majority}
+use Rattle.ballot.proofs.BinLaws.{told-majority}
 use Rattle.task.proofs.TaskLaws.{runTask-elsewhere}
 
 -- ---- the tasks of a frame

@@ -1,6 +1,7 @@
 // One node's memory.
 ghost use mathlib.Core.Path.{_≡_};
 ghost use Rattle.memory.specs.Node.{zeroMemory};
+use answer::Answer;
 use plan::Plan;
 
 pub mod step;
@@ -9,6 +10,12 @@ pub mod step;
 pub struct Memory {
     pub counter: u16,
     pub cells: [u64; Plan::CELLS],
+}
+
+// What a call on a memory gives.
+pub struct Outcome {
+    pub answer: Answer,
+    pub memory: Memory,
 }
 
 pub fn zero_memory() -> Memory

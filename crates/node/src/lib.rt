@@ -5,17 +5,13 @@ ghost use Rattle.memory.specs.Size.{messageSize};
 ghost use Rattle.node.specs.Answers.{lengthChecked, powerOnAnswer, computeAnswer, voteAnswer, messagePlace, setpointPlace};
 use answer::Answer;
 use memory::Memory;
+use memory::Outcome;
 use plan::Plan;
-
-pub struct Outcome {
-    pub answer: Answer,
-    pub memory: Memory,
-}
 
 pub fn power_on(plan: Plan) -> Outcome
     ensures { λ r. ⌜ r ≡ powerOnAnswer plan ⌝ }
 {
-    if recovery::accepted_period(plan) == 0 {
+    if plan_period::accepted_period(plan) == 0 {
         let memory = memory::zero_memory();
         return Outcome {
             answer: Answer::InvalidPlan,
@@ -32,7 +28,7 @@ pub fn power_on(plan: Plan) -> Outcome
 pub fn compute(plan: Plan, memory: Memory, sensors: &[u64]) -> Outcome
     ensures { λ r. ⌜ r ≡ computeAnswer plan memory (now (sensors .entry)) ⌝ }
 {
-    if recovery::accepted_period(plan) == 0 {
+    if plan_period::accepted_period(plan) == 0 {
         return Outcome {
             answer: Answer::InvalidPlan,
             memory,
@@ -55,7 +51,7 @@ pub fn compute(plan: Plan, memory: Memory, sensors: &[u64]) -> Outcome
 pub fn message(plan: Plan, memory: Memory, out: &mut [u8]) -> Answer
     ensures { λ r. ⌜ (r ≡ lengthChecked plan (length (now (out .entry))) (messageSize plan)) × (now (out .exit) ≡ messagePlace plan memory (now (out .entry))) ⌝ }
 {
-    if recovery::accepted_period(plan) == 0 {
+    if plan_period::accepted_period(plan) == 0 {
         return Answer::InvalidPlan;
     }
     let cells = plan.cells;
@@ -69,7 +65,7 @@ pub fn message(plan: Plan, memory: Memory, out: &mut [u8]) -> Answer
 pub fn vote(plan: Plan, memory: Memory, mailbox: &[u8]) -> Outcome
     ensures { λ r. ⌜ r ≡ voteAnswer plan memory (now (mailbox .entry)) ⌝ }
 {
-    if recovery::accepted_period(plan) == 0 {
+    if plan_period::accepted_period(plan) == 0 {
         return Outcome {
             answer: Answer::InvalidPlan,
             memory,
@@ -93,7 +89,7 @@ pub fn vote(plan: Plan, memory: Memory, mailbox: &[u8]) -> Outcome
 pub fn setpoints(plan: Plan, memory: Memory, out: &mut [u64]) -> Answer
     ensures { λ r. ⌜ (r ≡ lengthChecked plan (length (now (out .entry))) (plan .actuators)) × (now (out .exit) ≡ setpointPlace plan memory (now (out .entry))) ⌝ }
 {
-    if recovery::accepted_period(plan) == 0 {
+    if plan_period::accepted_period(plan) == 0 {
         return Answer::InvalidPlan;
     }
     let wanted = plan.actuators;

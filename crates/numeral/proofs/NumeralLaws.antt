@@ -13,7 +13,7 @@ use borrow.Author.Tests.{eq-eqb, ne-eqb, le-leb, lt-leb, lt-ltb, le-ltb, eqb-tru
 use Rattle.array.specs.Index.{allBelow}
 use Rattle.array.proofs.TestLaws.{split, and-false-right}
 use Rattle.array.proofs.IndexLaws.{allBelow-more, allBelow-fails}
-use Rattle.numeral.specs.Numeral.{isDigit, decimal, wellFormed, numeralOf}
+use Rattle.numeral.specs.Numeral.{isDigit, decimal, isNumeral, numeralOf}
 
 -- a digit more
 pub power-more : (v x i : ℕ) → v < 10 ^ i → x < 10 → v * 10 + x < 10 ^ (i + 1)
@@ -56,21 +56,21 @@ module _ (d : List ℕ) where
 
   -- ---- what is refused
 
-  pub numeral-malformed : wellFormed d ≡ false → none ≡ numeralOf d
+  pub numeral-malformed : isNumeral d ≡ false → none ≡ numeralOf d
   unfolding numeralOf
   numeral-malformed e = rw e
 
   pub numeral-empty : length d ≡ 0 → none ≡ numeralOf d
-  unfolding wellFormed
+  unfolding isNumeral
   numeral-empty e = numeral-malformed (rw e)
 
   -- a zero before others
   pub numeral-zeros : getD d 0 0 ≡ 48 → (length d ≡ 1 → ⊥) → none ≡ numeralOf d
-  unfolding wellFormed
+  unfolding isNumeral
   numeral-zeros e n = numeral-malformed (rw (eq-eqb (getD d 0 0) 48 e, ne-eqb (length d) 1 n, and-false))
 
   pub numeral-other : (k : ℕ) → k < length d → isDigit (getD d k 0) ≡ false → none ≡ numeralOf d
-  unfolding wellFormed
+  unfolding isNumeral
   numeral-other k l e = numeral-malformed (rw (allBelow-fails (λ i. isDigit (getD d i 0)) (length d) k l e, and-false))
 
   pub numeral-low : (k : ℕ) → k < length d → getD d k 0 < 48 → none ≡ numeralOf d
@@ -94,14 +94,14 @@ module _ (d : List ℕ) where
       (0 < length d) →
       (getD d 0 0 ≡ 48 → length d ≡ 1) →
       allBelow (λ i. isDigit (getD d i 0)) (length d) ≡ true →
-      wellFormed d ≡ true
-  unfolding wellFormed
+      isNumeral d ≡ true
+  unfolding isNumeral
   wellFormed-all p z a =
       split (eqb (getD d 0 0) 48)
       (λ t. rw (lt-ltb 0 (length d) p, t, eq-eqb (length d) 1 (z (eqb-true (getD d 0 0) 48 t)), a))
       (λ t. rw (lt-ltb 0 (length d) p, t, a))
 
-  pub numeral-read : wellFormed d ≡ true → decimal d (length d) < 2 ^ 64 → some (decimal d (length d)) ≡ numeralOf d
+  pub numeral-read : isNumeral d ≡ true → decimal d (length d) < 2 ^ 64 → some (decimal d (length d)) ≡ numeralOf d
   unfolding numeralOf
   numeral-read e l = rw (e, lt-ltb (decimal d (length d)) (2 ^ 64) l)
 
@@ -117,9 +117,9 @@ module _ (d : List ℕ) where
       some v ≡ numeralOf d
   numeral-whole i v e q a n z l =
       let m : v ≡ decimal d (length d) = q ∙ ap (decimal d) e in
-      let w : wellFormed d ≡ true = wellFormed-all (omega arith) (λ t. absurd (z t)) (rw (← e) a) in
+      let w : isNumeral d ≡ true = wellFormed-all (omega arith) (λ t. absurd (z t)) (rw (← e) a) in
       ap some m ∙ numeral-read w (rw (← m) l)
 
   pub numeral-zero : getD d 0 0 ≡ 48 → length d ≡ 1 → some 0 ≡ numeralOf d
-  unfolding numeralOf wellFormed decimal allBelow
+  unfolding numeralOf isNumeral decimal allBelow
   numeral-zero e n = rw (n, e)

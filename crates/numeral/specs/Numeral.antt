@@ -16,11 +16,11 @@ decimal d zero = 0
 decimal d (suc k) = decimal d k * 10 + (getD d k 0 - 48)
 
 -- digits and nothing else, at least one, and no zero before others
-unfoldable pub wellFormed : List ℕ → Bool
-wellFormed d =
+unfoldable pub isNumeral : List ℕ → Bool
+isNumeral d =
     ltb 0 (length d) && (not (eqb (getD d 0 0) 48) || eqb (length d) 1)
     && allBelow (λ i. isDigit (getD d i 0)) (length d)
 
 -- the number that digits show, if they are of the form and it is below 2^64
 unfoldable pub numeralOf : List ℕ → Option ℕ
-numeralOf d = cond (wellFormed d && ltb (decimal d (length d)) (2 ^ 64)) (some (decimal d (length d))) none
+numeralOf d = cond (isNumeral d && ltb (decimal d (length d)) (2 ^ 64)) (some (decimal d (length d))) none

@@ -4,6 +4,7 @@ use mathlib.Core.Bool.{Bool, true, false, _&&_, _||_}
 use mathlib.Core.List.{List}
 use Prim.Native.Nat.{ℕ, zero, suc, _+_, _-_, _*_, _^_, _≤_, _<_}
 use native.Mathlib.Omega.{arith}
+use native.Mathlib.Nat.{mul-le-mul}
 use lib.Dec.{eqb, ltb, lit<}
 use lib.ListN.{length, getD, List·getD-eq-default}
 use borrow.Author.Tests.{ltb-true, ltb-false, leb-true, eqb-true, eqb-false, lt-ltb, le-ltb, le-leb, eq-eqb, ne-eqb, not-true, not-false}
@@ -249,3 +250,7 @@ shape-of-accepted p a = shape-of p (and-left (wellFormed p) _ a)
 pub period-of-accepted : (p : Plan) → accepted p ≡ true → 0 < period p
 unfolding accepted
 period-of-accepted p a = omega (arith, eqb-false (period p) 0 (not-true _ (and-right (wellFormed p) _ a)))
+
+-- the frames of a plan, each with its cells, are few
+pub bound-small : (p : Plan) → Shape p → p .frames * p .cells ≤ 512
+bound-small p s = mul-le-mul (s .frames-le) (s .cells-le)

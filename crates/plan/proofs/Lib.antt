@@ -1,3 +1,4 @@
+pub mod KnownExample
 pub mod AcceptedLaws
 pub mod KnownLaws
 pub mod PeriodLaws

@@ -17,7 +17,7 @@ use Rattle.plan.specs.declared.Plan.{Plan}
 use Rattle.plan.specs.Limits.{mostCells}
 use Rattle.plan.specs.Known.{knowVoted, knowFrame, noneKnown, known, allKnown, periodTo, period}
 use Rattle.plan.proofs.AcceptedLaws.{Shape}
-use Rattle.plan.proofs.KnownLaws.{voted-length, frame-length, known-first, known-next, known-length, Sub, All, frame-sub, first-sub, frame-all}
+use Rattle.plan.proofs.KnownLaws.{voted-length, frame-length, known-none, known-first, known-next, known-length, none-known, Sub, All, frame-sub, first-sub, frame-all}
 
 -- ---- all cells known, for every first frame
 
@@ -210,10 +210,15 @@ module _ (p : Plan) (s : Shape p) where
 
   -- ---- R
 
+  -- after no good frame no cell is known, and there is a cell
+  started : (h : ℕ) → allKnown p h ≡ true → 0 < h
+  started zero a = absurd (clash (allKnown-at p 0 a 0 0 (s .frames-pos) (s .cells-pos)) (rw (known-none p 0) (none-known 0)))
+  started (suc h) a = omega arith
+
   -- the least count of all: where none is found up to 1 + F × C, there is none
-  pub period-least : (h : ℕ) → 0 < h → allKnown p h ≡ true → (0 < period p) × (period p ≤ h)
+  pub period-least : (h : ℕ) → allKnown p h ≡ true → (0 < period p) × (period p ≤ h)
   unfolding period
-  period-least h l a = split (leb h top) (λ t. found p top .2 h l (leb-true h top t) a) (λ t. far (leb-false h top t))
+  period-least h a = split (leb h top) (λ t. found p top .2 h (started h a) (leb-true h top t) a) (λ t. far (leb-false h top t))
     where
       top : ℕ
       top = 1 + p .frames * p .cells
@@ -239,9 +244,9 @@ module _ (p : Plan) (s : Shape p) where
   pub allKnown-stays : (h k : ℕ) → 0 < h → h ≤ k → allKnown p h ≡ true → allKnown p k ≡ true
   allKnown-stays h k l m a = allKnown-all p k (λ g c gl cl. all-stays g h k l m (λ x xl. allKnown-at p h a g x gl xl) c cl)
 
-  pub period-is : (r : ℕ) → 0 < r → allKnown p r ≡ true → ((h : ℕ) → 0 < h → h < r → allKnown p h ≡ false) → period p ≡ r
-  period-is r l a f =
-      let q = period-least r l a in
+  pub period-is : (r : ℕ) → allKnown p r ≡ true → ((h : ℕ) → 0 < h → h < r → allKnown p h ≡ false) → period p ≡ r
+  period-is r a f =
+      let q = period-least r a in
       split (ltb (period p) r)
       (λ t. absurd (clash (period-reached p (q .0)) (f (period p) (q .0) (ltb-true _ _ t))))
       (λ t. omega (arith, q .1, ltb-false (period p) r t))

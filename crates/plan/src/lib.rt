@@ -1,4 +1,4 @@
-// The plan record, and which records are of form. The recovery period is in `recovery`.
+// The plan record, and which records are of form. The recovery period is in `plan_period`.
 ghost use mathlib.Core.Path.{_≡_};
 ghost use Rattle.plan.specs.Accepted.{wellFormed};
 ghost use Rattle.plan.specs.Sizes.{numbersOf};

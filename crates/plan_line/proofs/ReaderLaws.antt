@@ -10,12 +10,12 @@ use lib.ListN.{length, getD}
 use lib.Seq.{slice}
 use borrow.Author.Tests.{eq-eqb, ne-eqb, eqb-true, eqb-false, lt-ltb, le-ltb, ltb-true, ltb-false}
 use Rattle.array.proofs.TestLaws.{split}
-use Rattle.column.specs.Column.{numberOf}
-use Rattle.column.specs.Row.{andThen, numbersFrom, numbersOf}
+use Rattle.column.specs.Column.{numberShown}
+use Rattle.column.specs.Row.{andThen, numbersFrom, numbersShown}
 use Rattle.numeral.specs.declared.Number.{Number}
 use Rattle.numeral.specs.declared.Number.the-variants.{Malformed}
 use Rattle.numeral.specs.Answers.{shown}
-use Rattle.text.specs.Line.{widths}
+use Rattle.plan_grammar.specs.Line.{widths}
 
 -- ---- a line's columns
 
@@ -25,49 +25,49 @@ and-none (some v) = refl
 
 module _ (s : List ℕ) where
   columns :
-      numbersOf widths s
-      ≡ andThen (numberOf (slice 0 4 s)) (andThen (numberOf (slice 4 8 s)) (andThen (numberOf (slice 8 12 s)) (andThen (numberOf (slice 12 16 s))
-      (andThen (numberOf (slice 16 36 s)) (andThen (numberOf (slice 36 56 s)) (cond (eqb (length s) 57 && eqb (getD s 56 0) 10) (some []) none))))))
-  unfolding numbersOf numbersFrom
+      numbersShown widths s
+      ≡ andThen (numberShown (slice 0 4 s)) (andThen (numberShown (slice 4 8 s)) (andThen (numberShown (slice 8 12 s)) (andThen (numberShown (slice 12 16 s))
+      (andThen (numberShown (slice 16 36 s)) (andThen (numberShown (slice 36 56 s)) (cond (eqb (length s) 57 && eqb (getD s 56 0) 10) (some []) none))))))
+  unfolding numbersShown numbersFrom
   columns = refl
 
   -- a column that shows nothing
   module _ (r : Number) (told : r ≡ Malformed) where
-    pub bad-1 : shown r ≡ numberOf (slice 0 4 s) → none ≡ numbersOf widths s
+    pub bad-1 : shown r ≡ numberShown (slice 0 4 s) → none ≡ numbersShown widths s
     bad-1 e = sym (columns ∙ simp (sym e ∙ ap shown told))
 
-    pub bad-2 : shown r ≡ numberOf (slice 4 8 s) → none ≡ numbersOf widths s
+    pub bad-2 : shown r ≡ numberShown (slice 4 8 s) → none ≡ numbersShown widths s
     bad-2 e = sym (columns ∙ simp (sym e ∙ ap shown told, and-none))
 
-    pub bad-3 : shown r ≡ numberOf (slice 8 12 s) → none ≡ numbersOf widths s
+    pub bad-3 : shown r ≡ numberShown (slice 8 12 s) → none ≡ numbersShown widths s
     bad-3 e = sym (columns ∙ simp (sym e ∙ ap shown told, and-none))
 
-    pub bad-4 : shown r ≡ numberOf (slice 12 16 s) → none ≡ numbersOf widths s
+    pub bad-4 : shown r ≡ numberShown (slice 12 16 s) → none ≡ numbersShown widths s
     bad-4 e = sym (columns ∙ simp (sym e ∙ ap shown told, and-none))
 
-    pub bad-5 : shown r ≡ numberOf (slice 16 36 s) → none ≡ numbersOf widths s
+    pub bad-5 : shown r ≡ numberShown (slice 16 36 s) → none ≡ numbersShown widths s
     bad-5 e = sym (columns ∙ simp (sym e ∙ ap shown told, and-none))
 
-    pub bad-6 : shown r ≡ numberOf (slice 36 56 s) → none ≡ numbersOf widths s
+    pub bad-6 : shown r ≡ numberShown (slice 36 56 s) → none ≡ numbersShown widths s
     bad-6 e = sym (columns ∙ simp (sym e ∙ ap shown told, and-none))
 
-  pub bad-length : (length s ≡ 57 → ⊥) → none ≡ numbersOf widths s
+  pub bad-length : (length s ≡ 57 → ⊥) → none ≡ numbersShown widths s
   bad-length n = sym (columns ∙ simp (ne-eqb (length s) 57 n, and-none))
 
-  pub bad-end : length s ≡ 57 → (getD s 56 0 ≡ 10 → ⊥) → none ≡ numbersOf widths s
+  pub bad-end : length s ≡ 57 → (getD s 56 0 ≡ 10 → ⊥) → none ≡ numbersShown widths s
   bad-end l n = sym (columns ∙ simp (eq-eqb (length s) 57 l, ne-eqb (getD s 56 0) 10 n, and-none))
 
   pub whole-line :
       length s ≡ 57 →
       getD s 56 0 ≡ 10 →
       {a b c d e f : ℕ} →
-      some a ≡ numberOf (slice 0 4 s) →
-      some b ≡ numberOf (slice 4 8 s) →
-      some c ≡ numberOf (slice 8 12 s) →
-      some d ≡ numberOf (slice 12 16 s) →
-      some e ≡ numberOf (slice 16 36 s) →
-      some f ≡ numberOf (slice 36 56 s) →
-      some (a ∷ b ∷ c ∷ d ∷ e ∷ f ∷ []) ≡ numbersOf widths s
+      some a ≡ numberShown (slice 0 4 s) →
+      some b ≡ numberShown (slice 4 8 s) →
+      some c ≡ numberShown (slice 8 12 s) →
+      some d ≡ numberShown (slice 12 16 s) →
+      some e ≡ numberShown (slice 16 36 s) →
+      some f ≡ numberShown (slice 36 56 s) →
+      some (a ∷ b ∷ c ∷ d ∷ e ∷ f ∷ []) ≡ numbersShown widths s
   whole-line l n p₁ p₂ p₃ p₄ p₅ p₆ = sym (columns ∙ rw (← p₁, ← p₂, ← p₃, ← p₄, ← p₅, ← p₆, eq-eqb (length s) 57 l, eq-eqb (getD s 56 0) 10 n))
 
 -- ---- the number after another

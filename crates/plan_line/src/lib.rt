@@ -3,11 +3,11 @@ ghost use mathlib.Core.Path.{_≡_};
 ghost use Prim.Native.Nat.{_+_};
 ghost use lib.Dec.{eqb, ltb};
 ghost use Rattle.plan.specs.Limits.{mostTasks};
-ghost use Rattle.column.specs.Row.{numbersOf};
-ghost use Rattle.text.specs.Line.{widths, isTask};
-ghost use Rattle.text.specs.Meant.{opOf, taskOf};
-ghost use Rattle.text.specs.Refused.{isHeader, afterCells, taskInOrder, smallerVote, voteInOrder, actuatorInOrder, inOrder, taskZeros, inRange, isLast};
-ghost use Rattle.plan_line.specs.Reader.{numbersIn, numbersRead};
+ghost use Rattle.column.specs.Row.{numbersShown};
+ghost use Rattle.plan_grammar.specs.Line.{widths, isTask};
+ghost use Rattle.plan_grammar.specs.Meant.{opOf, taskOf};
+ghost use Rattle.plan_grammar.specs.Refused.{isHeader, afterCells, taskInOrder, smallerVote, voteInOrder, actuatorInOrder, inOrder, taskZeros, inRange, isLast};
+ghost use Rattle.plan_line.specs.Code.{numbersIn, numbersRead};
 use numeral::Number;
 use pattern::WindLaw;
 use plan::Op;
@@ -73,7 +73,7 @@ pub enum LineRead {
 }
 
 pub fn read_line(line: &[u8]) -> LineRead
-    ensures { λ r. ⌜ numbersRead r ≡ numbersOf widths (now (line .entry)) ⌝ }
+    ensures { λ r. ⌜ numbersRead r ≡ numbersShown widths (now (line .entry)) ⌝ }
 {
     if line.len() != Line::SIZE {
         return LineRead::Malformed;

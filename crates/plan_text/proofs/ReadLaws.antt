@@ -10,7 +10,8 @@ use lib.ListN.{length, take, drop}
 use Rattle.array.proofs.TestLaws.{and-false-left, and-false-right, refused-test, passed-test}
 use Rattle.answer.specs.declared.Answer.{Answer}
 use Rattle.answer.specs.declared.Answer.the-variants.{Done, TextLength, Malformed, Header, OutOfOrder, OutOfRange, Unrecoverable}
-use Rattle.column.specs.Row.{numbersOf}
+use Rattle.column.specs.Row.{numbersShown}
+use Rattle.answer.specs.Tests.{unlessRefused}
 use Rattle.plan.specs.declared.Plan.{Plan}
 use Rattle.plan.specs.Limits.{mostTasks}
 use Rattle.plan.specs.Known.{period}
@@ -19,26 +20,26 @@ use Rattle.plan_text.specs.declared.PlanRead.{PlanRead}
 use Rattle.plan_line.specs.declared.Line.{Line}
 use Rattle.plan_line.specs.declared.LineRead.{LineRead}
 use Rattle.plan_line.specs.declared.LineRead.the-variants.{Whole, Malformed as NoLine}
-use Rattle.text.specs.Line.{widths, lineSize, mostLines, lineCount, numbersAt, lineAt}
-use Rattle.text.specs.Meant.{zeroPlan, withLine, planTo, planOf}
-use Rattle.text.specs.Refused.{lengthOk, isHeader, inOrder, inRange, lineRefusal, firstRefusal, isLast, linesRefusal, textRefusal}
-use Rattle.plan_text.specs.Answers.{unlessRefused, readAnswer, readPeriod}
-use Rattle.plan_line.specs.Reader.{numbersIn, numbersRead}
-use Rattle.text.proofs.LineLaws.{slice-part, lineAt-is, some-line, few-lines}
-use Rattle.text.proofs.MeantLaws.{planTo-start, planTo-more, planTo-tasks, planTo-count}
-use Rattle.text.proofs.RefusedLaws.{first-start, first-more, line-malformed, not-header, header-passes, refused-order, refused-range, not-refused, lines-none, lines-refused, lines-missing, text-wrong-length, text-refused, text-unrecoverable, text-none}
-use Rattle.text.proofs.ToldLaws.{text-wellFormed}
-use Rattle.recovery.proofs.AnswerLaws.{accepted-period, refused-period}
+use Rattle.plan_grammar.specs.Line.{widths, lineSize, mostTextLines, lineCount, numbersAt, lineAt}
+use Rattle.plan_grammar.specs.Meant.{zeroPlan, withLine, planTo, planOf}
+use Rattle.plan_grammar.specs.Refused.{lengthOk, isHeader, inOrder, inRange, lineRefusal, firstRefusal, isLast, linesRefusal, textRefusal}
+use Rattle.plan_text.specs.Answers.{readAnswer, readPeriod}
+use Rattle.plan_line.specs.Code.{numbersIn, numbersRead}
+use Rattle.plan_grammar.proofs.LineLaws.{slice-part, lineAt-is, some-line, few-lines}
+use Rattle.plan_grammar.proofs.MeantLaws.{planTo-start, planTo-more, planTo-tasks, planTo-count}
+use Rattle.plan_grammar.proofs.RefusedLaws.{first-start, first-more, line-malformed, not-header, header-passes, refused-order, refused-range, not-refused, lines-none, lines-refused, lines-missing, text-wrong-length, text-refused, text-unrecoverable, text-none}
+use Rattle.plan_grammar.proofs.AcceptedTextLaws.{text-wellFormed}
+use Rattle.plan_period.proofs.AnswerLaws.{accepted-period, refused-period}
 use Rattle.plan_text.proofs.TextLaws.{read-plan}
 
 -- ---- the numbers of line i, as the code takes them
 
 numbers-taken :
-    (s : List ℕ) (i : ℕ) → numbersOf widths (take (lineSize * i + lineSize - lineSize * i) (drop (lineSize * i) s)) ≡ numbersAt s i
+    (s : List ℕ) (i : ℕ) → numbersShown widths (take (lineSize * i + lineSize - lineSize * i) (drop (lineSize * i) s)) ≡ numbersAt s i
 unfolding numbersAt
 numbers-taken s i = rw (add-sub-cancel-left (lineSize * i) lineSize, slice-part (lineSize * i) lineSize s)
 
-module _ (s : List ℕ) (i : ℕ) {x : LineRead} (e : numbersRead x ≡ numbersOf widths (take (lineSize * i + lineSize - lineSize * i) (drop (lineSize * i) s))) where
+module _ (s : List ℕ) (i : ℕ) {x : LineRead} (e : numbersRead x ≡ numbersShown widths (take (lineSize * i + lineSize - lineSize * i) (drop (lineSize * i) s))) where
   pub whole-line : {l : Line} → x ≡ Whole l → numbersAt s i ≡ some (numbersIn l)
   whole-line t = sym (numbers-taken s i) ∙ sym e ∙ ap numbersRead t
 
@@ -114,7 +115,7 @@ module _ {s h : List ℕ} {p : Plan} {prev : List ℕ} {i : ℕ} (r : ReadTo s h
   pub read-tasks : length (p .tasks) ≡ mostTasks
   read-tasks = ap (λ (q : Plan). length (q .tasks)) (r .plan) ∙ planTo-tasks s i
 
-  pub read-count : p .«task_count» ≤ mostLines
+  pub read-count : p .«task_count» ≤ mostTextLines
   read-count =
       rw (ap (λ (q : Plan). q .«task_count») (r .plan)) (omega (arith, planTo-count s i, r .in-text, few-lines (length s) (r .length-ok)))
 

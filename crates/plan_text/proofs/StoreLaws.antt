@@ -9,10 +9,10 @@ use borrow.Author.Tests.{eqb-true}
 use Rattle.array.proofs.TestLaws.{split, clash, and-left, and-right}
 use Rattle.plan.specs.declared.Task.{Task}
 use Rattle.plan.specs.declared.Plan.{Plan}
-use Rattle.text.specs.Line.{kindOf, second, third, fourth, fifth, sixth, isTask, headerKind}
-use Rattle.text.specs.Meant.{zeroPlan, taskOf, headerWith, initialWith, countWith, tasksWith, votedWith, actuatorsWith, withLine}
-use Rattle.text.specs.Refused.{isHeader, inOrder}
-use Rattle.text.proofs.MeantLaws.{with-header}
+use Rattle.plan_grammar.specs.Line.{kindOf, second, third, fourth, fifth, sixth, isTask, headerKind}
+use Rattle.plan_grammar.specs.Meant.{zeroPlan, taskOf, headerWith, initialWith, countWith, tasksWith, votedWith, actuatorsWith, withLine}
+use Rattle.plan_grammar.specs.Refused.{isHeader, inOrder}
+use Rattle.plan_grammar.proofs.MeantLaws.{with-header}
 
 -- no line after the first is a header
 pub later-kind : (h : List ℕ) (j : ℕ) (prev l : List ℕ) → inOrder h j prev l ≡ true → eqb (kindOf l) headerKind ≡ false

@@ -8,17 +8,18 @@ use Prim.Native.Nat.{ℕ}
 use native.Mathlib.Omega.{arith}
 use Rattle.array.proofs.TestLaws.{and-left, and-both}
 use Rattle.answer.specs.declared.Answer.the-variants.{Done}
+use Rattle.answer.specs.Tests.{unlessRefused}
 use Rattle.plan.specs.declared.Plan.{Plan}
 use Rattle.plan.specs.Known.{period}
 use Rattle.plan.specs.Accepted.{wellFormed, accepted}
 use Rattle.plan.proofs.AcceptedLaws.{period-of-accepted}
-use Rattle.text.specs.Written.{planText}
-use Rattle.text.specs.Meant.{planOf}
-use Rattle.text.specs.Refused.{textRefusal}
-use Rattle.plan_text.specs.Answers.{unlessRefused, readAnswer}
-use Rattle.text.proofs.RefusedLaws.{text-none, text-length-ok, text-lines-ok, text-period}
-use Rattle.text.proofs.ToldLaws.{text-wellFormed, text-of-plan}
-use Rattle.text.proofs.BackLaws.{planText-length, planText-lines, plan-of-text}
+use Rattle.plan_grammar.specs.Written.{planText}
+use Rattle.plan_grammar.specs.Meant.{planOf}
+use Rattle.plan_grammar.specs.Refused.{textRefusal}
+use Rattle.plan_text.specs.Answers.{readAnswer}
+use Rattle.plan_grammar.proofs.RefusedLaws.{text-none, text-length-ok, text-lines-ok, text-period}
+use Rattle.plan_grammar.proofs.AcceptedTextLaws.{text-wellFormed, text-of-plan}
+use Rattle.plan_grammar.proofs.WrittenTextLaws.{planText-length, planText-lines, plan-of-text}
 
 -- ---- from a plan to its text and back
 
@@ -62,13 +63,13 @@ module _ (s : List ℕ) (e : textRefusal s ≡ none) where
 pub accepted-iff-read : (p : Plan) → (accepted p ≡ true) ↔ ((s : List ℕ) × (textRefusal s ≡ none) × (planOf s ≡ p))
 accepted-iff-read p = (λ a. (planText p, accepted-read p a, accepted-back p a), λ r. rw (← r .2) (read-plan (r .0) (r .1)))
 
--- one text for a plan
+-- one plan for a text
 pub planText-injective : (p q : Plan) → wellFormed p ≡ true → wellFormed q ≡ true → planText p ≡ planText q → p ≡ q
 planText-injective p q v w e = sym (plan-of-text p v) ∙ ap planOf e ∙ plan-of-text q w
 
 pub text-of-accepted : (p : Plan) (s : List ℕ) → textRefusal s ≡ none → planOf s ≡ p → s ≡ planText p
 text-of-accepted p s e f = sym (read-back s e) ∙ ap planText f
 
--- one plan for a text
+-- one text for a plan
 pub planOf-injective : (s t : List ℕ) → textRefusal s ≡ none → textRefusal t ≡ none → planOf s ≡ planOf t → s ≡ t
 planOf-injective s t e f g = sym (read-back s e) ∙ ap planText g ∙ read-back t f

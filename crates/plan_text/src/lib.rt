@@ -27,7 +27,7 @@ pub fn read(text: &[u8]) -> PlanRead
 pub fn write(plan: Plan, out: &mut [u8]) -> TextWritten
     ensures { λ r. ⌜ (r ≡ writeAnswer plan (length (now (out .entry)))) × (now (out .exit) ≡ writePlace plan (now (out .entry))) ⌝ }
 {
-    if recovery::accepted_period(plan) == 0 {
+    if plan_period::accepted_period(plan) == 0 {
         return TextWritten {
             answer: Answer::InvalidPlan,
             count: 0,

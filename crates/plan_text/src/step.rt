@@ -5,11 +5,11 @@ ghost use mathlib.Core.Bool.{true};
 ghost use mathlib.Core.Option.{some};
 ghost use lib.ListN.{length};
 ghost use Rattle.plan.specs.Limits.{mostFrames, mostCells, mostActuators};
-ghost use Rattle.text.specs.Line.{numbersAt, cellKind, voteKind, actuatorKind};
-ghost use Rattle.text.specs.Meant.{zeroPlan, initialWith, votedWith, actuatorsWith};
-ghost use Rattle.text.specs.Refused.{lengthOk, isHeader};
+ghost use Rattle.plan_grammar.specs.Line.{numbersAt, cellKind, voteKind, actuatorKind};
+ghost use Rattle.plan_grammar.specs.Meant.{zeroPlan, initialWith, votedWith, actuatorsWith};
+ghost use Rattle.plan_grammar.specs.Refused.{lengthOk, isHeader};
 ghost use Rattle.plan_text.specs.Answers.{readAnswer, readPeriod};
-ghost use Rattle.plan_line.specs.Reader.{numbersIn};
+ghost use Rattle.plan_line.specs.Code.{numbersIn};
 use super::PlanRead;
 use answer::Answer;
 use plan::Op;
@@ -127,7 +127,7 @@ fn read_lines(text: &[u8], h: Line, period: &mut usize) -> PlanRead
     if !plan_line::is_last(h, prev) {
         return refused(Answer::OutOfOrder(lines + 1), period);
     }
-    let found = recovery::step::period(plan);
+    let found = plan_period::step::period(plan);
     if found == 0 {
         return refused(Answer::Unrecoverable, period);
     }

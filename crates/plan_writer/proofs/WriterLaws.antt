@@ -13,15 +13,15 @@ use Rattle.array.proofs.PlacedLaws.{placed-none, placed-length, placed-next}
 use Rattle.array.proofs.PlacesLaws.{joined-none, joined-more}
 use Rattle.column.specs.Column.{column}
 use Rattle.column.specs.Row.{row}
-use Rattle.column.proofs.LaidLaws.{Laid, laid-length}
+use Rattle.column.proofs.BufferLaws.{Laid, laid-length}
 use Rattle.plan.specs.declared.Plan.{Plan}
 use Rattle.plan.specs.Limits.{mostFrames, mostCells}
 use Rattle.plan.specs.Known.{taskAt, voteFrame, voteCell}
-use Rattle.text.specs.Line.{widths, lineSize, cellKind, actuatorKind}
+use Rattle.plan_grammar.specs.Line.{widths, lineSize, cellKind, actuatorKind}
 use Rattle.array.specs.Place.{placed}
-use Rattle.text.specs.Written.{headerLine, taskLine, voteLine, planText}
-use Rattle.text.proofs.LineLaws.{row-size}
-use Rattle.text.proofs.WrittenLaws.{voteRow, votesBelow, rows-length, voteRows-length, text-parts}
+use Rattle.plan_grammar.specs.Written.{headerLine, taskLine, voteLine, planText}
+use Rattle.plan_grammar.proofs.LineLaws.{row-size}
+use Rattle.plan_grammar.proofs.WrittenLaws.{voteRow, votesBelow, rows-length, voteRows-length, text-parts}
 
 -- ---- the columns of a line
 

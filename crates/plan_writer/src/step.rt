@@ -9,10 +9,10 @@ ghost use Rattle.column.specs.Row.{row};
 ghost use Rattle.plan.specs.Limits.{mostCells, mostFrames, mostTasks, mostActuators};
 ghost use Rattle.plan.specs.Known.{taskAt, voteFrame, voteCell};
 ghost use Rattle.plan.specs.Accepted.{accepted};
-ghost use Rattle.text.specs.Line.{widths, lineSize, mostLines, cellKind, actuatorKind};
-ghost use Rattle.text.specs.Written.{opLine, taskLine, voteLine, planText};
+ghost use Rattle.plan_grammar.specs.Line.{widths, lineSize, mostTextLines, cellKind, actuatorKind};
+ghost use Rattle.plan_grammar.specs.Written.{opLine, taskLine, voteLine, planText};
 ghost use Rattle.array.specs.Place.{placed};
-ghost use Rattle.plan_line.specs.Reader.{numbersIn};
+ghost use Rattle.plan_line.specs.Code.{numbersIn};
 use plan::Op;
 use plan::Plan;
 use plan::Task;
@@ -33,7 +33,7 @@ fn numbers(kind: usize, second: usize, third: usize, fourth: usize, fifth: u64, 
 
 // Fills line i of the buffer.
 fn write_line(out: &mut [u8], i: usize, l: Line)
-    requires { ⌜ (lineSize * i + lineSize ≤ length (now out)) × (i ≤ mostLines) ⌝ }
+    requires { ⌜ (lineSize * i + lineSize ≤ length (now out)) × (i ≤ mostTextLines) ⌝ }
     ensures { λ _. ⌜ now (out .exit) ≡ placed (now (out .entry)) (lineSize * i) (row widths (numbersIn l)) ⌝ }
 {
     let at = Line::SIZE * i;
@@ -56,7 +56,7 @@ fn write_line(out: &mut [u8], i: usize, l: Line)
 }
 
 fn write_cells(initial: &[u64; Plan::CELLS], cells: usize, out: &mut [u8], from: usize)
-    requires { ⌜ (cells ≤ mostCells) × (lineSize * (from + cells) ≤ length (now out)) × (from + cells ≤ mostLines) ⌝ }
+    requires { ⌜ (cells ≤ mostCells) × (lineSize * (from + cells) ≤ length (now out)) × (from + cells ≤ mostTextLines) ⌝ }
     ensures { λ _. ⌜ now (out .exit) ≡ placed (now (out .entry)) (lineSize * from) (joined (λ c. row widths (cellKind ∷ c ∷ 0 ∷ 0 ∷ getD (now (initial .entry)) c 0 ∷ 0 ∷ [])) cells) ⌝ }
 {
     let mut c: usize = 0;
@@ -102,7 +102,7 @@ fn task_line(t: Task) -> Line
 }
 
 fn write_tasks(plan: Plan, count: usize, out: &mut [u8], from: usize)
-    requires { ⌜ (count ≤ mostTasks) × (lineSize * (from + count) ≤ length (now out)) × (from + count ≤ mostLines) ⌝ }
+    requires { ⌜ (count ≤ mostTasks) × (lineSize * (from + count) ≤ length (now out)) × (from + count ≤ mostTextLines) ⌝ }
     ensures { λ _. ⌜ now (out .exit) ≡ placed (now (out .entry)) (lineSize * from) (joined (λ k. row widths (taskLine (taskAt plan k))) count) ⌝ }
 {
     let mut k: usize = 0;
@@ -138,7 +138,7 @@ fn vote_line(entry: usize) -> Line
 
 // The number of the line after the votes is given.
 fn write_votes(voted: &[bool; Plan::VOTES], out: &mut [u8], from: usize) -> usize
-    requires { ⌜ (lineSize * (from + howMany (λ e. getD (now voted) e false) (mostFrames * mostCells)) ≤ length (now out)) × (from + howMany (λ e. getD (now voted) e false) (mostFrames * mostCells) ≤ mostLines) ⌝ }
+    requires { ⌜ (lineSize * (from + howMany (λ e. getD (now voted) e false) (mostFrames * mostCells)) ≤ length (now out)) × (from + howMany (λ e. getD (now voted) e false) (mostFrames * mostCells) ≤ mostTextLines) ⌝ }
     ensures { λ r. ⌜ (r ≡ from + howMany (λ e. getD (now (voted .entry)) e false) (mostFrames * mostCells)) × (now (out .exit) ≡ placed (now (out .entry)) (lineSize * from) (joined (λ e. cond (getD (now (voted .entry)) e false) (row widths (voteLine (voteFrame e) (voteCell e))) []) (mostFrames * mostCells))) ⌝ }
 {
     let mut i = from;
@@ -154,7 +154,7 @@ fn write_votes(voted: &[bool; Plan::VOTES], out: &mut [u8], from: usize) -> usiz
 }
 
 fn write_actuators(table: &[usize; Plan::ACTUATORS], count: usize, out: &mut [u8], from: usize)
-    requires { ⌜ (count ≤ mostActuators) × (lineSize * (from + count) ≤ length (now out)) × (from + count ≤ mostLines) ⌝ }
+    requires { ⌜ (count ≤ mostActuators) × (lineSize * (from + count) ≤ length (now out)) × (from + count ≤ mostTextLines) ⌝ }
     ensures { λ _. ⌜ now (out .exit) ≡ placed (now (out .entry)) (lineSize * from) (joined (λ i. row widths (actuatorKind ∷ i ∷ getD (now (table .entry)) i 0 ∷ 0 ∷ 0 ∷ 0 ∷ [])) count) ⌝ }
 {
     let mut i: usize = 0;

@@ -21,7 +21,7 @@ use Rattle.plan.specs.Known.{votedIn, period}
 use Rattle.plan.specs.Accepted.{accepted}
 use Rattle.plan.specs.Sizes.{numbersOf, sizesOf}
 use Rattle.plan.proofs.AcceptedLaws.{Shape, shape-of-accepted}
-use Rattle.recovery.proofs.AnswerLaws.{period-small}
+use Rattle.plan_period.proofs.AnswerLaws.{period-small}
 use Rattle.ballot.specs.Majority.{majority}
 use Rattle.ballot.specs.Plane.{plane}
 use Rattle.ballot.proofs.MajorityLaws.{majority-same}
@@ -37,8 +37,8 @@ use Rattle.system.specs.Counts.{goodAfter}
 use Rattle.system.specs.Frame.{memoryOf, computedBy, heard, mailboxOf, memoryAfter, putOut, systemAfter, placeAfter}
 use Rattle.system.proofs.FaultLaws.{faultMessage-length}
 use Rattle.faults.specs.Code.{Small}
-use Rattle.faults.proofs.PartLaws.{small-of-shape}
-use Rattle.rows.specs.Rows.{wordCount, wordPlace, rowOf, memoryIn, Rows, Stored, Through}
+use Rattle.faults.proofs.LayoutLaws.{small-of-shape}
+use Rattle.rows.specs.Code.{wordCount, wordPlace, rowOf, memoryIn, Rows, Stored, Through}
 use Rattle.rows.proofs.RowLaws.{row-at, row-length, memory-eq}
 use Rattle.row_vote.specs.Code.{frameBefore, votedAt, sentWord, votedBy, heardCounter, heardWord, sentFrame, votedRow}
 use Rattle.row_frame.specs.Code.{ran, spoiled, closedRow, putFrom}

@@ -13,7 +13,7 @@ use Rattle.plan.specs.declared.Sizes.{Sizes}
 use Rattle.plan.specs.Limits.{mostCells}
 use Rattle.ballot.specs.Plane.{plane}
 use Rattle.ballot.specs.Code.{packed, Told}
-use Rattle.ballot.proofs.ToldLaws.{told-plane}
+use Rattle.ballot.proofs.BinLaws.{told-plane}
 use Rattle.memory.specs.Size.{patternSize}
 use Rattle.system.specs.Fault.{setpointSize, faultSetpointAt, faultSetpoint}
 use Rattle.system.proofs.FaultLaws.{setpoint-room}

@@ -18,7 +18,7 @@ use Rattle.memory.specs.declared.Memory.{Memory}
 use Rattle.memory.specs.Size.{counterSize, patternSize, cellAt}
 use Rattle.system.specs.Fault.{memorySize, faultAt, faultMemory}
 use Rattle.faults.specs.Code.{Parts}
-use Rattle.rows.specs.Rows.{rowOf, memoryIn, Stored, Through}
+use Rattle.rows.specs.Code.{rowOf, memoryIn, Stored, Through}
 use Rattle.rows.proofs.RowLaws.{memory-eq, lent-length, stored-row, through-none, through-kept}
 use Rattle.row_frame.specs.Code.{spoiled}
 

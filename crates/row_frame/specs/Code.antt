@@ -11,7 +11,7 @@ use Rattle.plan.specs.declared.Plan.{Plan}
 use Rattle.memory.specs.declared.Memory.{Memory}
 use Rattle.memory.specs.Node.{computed}
 use Rattle.system.specs.Fault.{faultMemory, faultSetpoint}
-use Rattle.rows.specs.Rows.{wordPlace}
+use Rattle.rows.specs.Code.{wordPlace}
 use Rattle.row_vote.specs.Code.{votedRow}
 
 -- row q after its tasks, where the rows from `first` on run theirs

@@ -17,7 +17,7 @@ ghost use Rattle.memory.specs.Node.{computed};
 ghost use Rattle.system.specs.Counts.{goodAfter};
 ghost use Rattle.system.specs.Frame.{systemAfter, placeAfter};
 ghost use Rattle.faults.specs.Code.{Small, Parts};
-ghost use Rattle.rows.specs.Rows.{rowCount, wordCount, memoryIn, Rows, Through};
+ghost use Rattle.rows.specs.Code.{rowCount, wordCount, memoryIn, Rows, Through};
 ghost use Rattle.row_frame.specs.Code.{spoiled, closedRow, putFrom};
 use plan::Plan;
 use plan::Sizes;

@@ -12,7 +12,7 @@ use Rattle.plan.specs.declared.Sizes.{Sizes}
 use Rattle.plan.specs.Limits.{mostFrames}
 use Rattle.ballot.specs.Majority.{majority, orOwn}
 use Rattle.ballot.specs.Code.{Told}
-use Rattle.rows.specs.Rows.{wordPlace}
+use Rattle.rows.specs.Code.{wordPlace}
 use Rattle.row_vote.specs.Code.{Put, frameBefore, votedAt, isGood, goodOnly, sentWord, agreedFrame, heardCounter, heardWord, counterAfter, takes, wordAfter}
 use Rattle.row_vote.proofs.PutLaws.{put-idle, put-same}
 use Rattle.row_vote.proofs.HeardLaws.{told-word, good-same, counter-settled, counter-kept, counter-alone, counter-read, word-decided, word-alone, word-read}

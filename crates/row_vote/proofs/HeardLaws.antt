@@ -16,11 +16,11 @@ use Rattle.plan.specs.declared.Sizes.{Sizes}
 use Rattle.ballot.specs.Majority.{majority, orOwn}
 use Rattle.ballot.specs.Code.{packed, Told}
 use Rattle.ballot.proofs.PackedLaws.{packed-in}
-use Rattle.ballot.proofs.ToldLaws.{told-majority}
+use Rattle.ballot.proofs.BinLaws.{told-majority}
 use Rattle.ballot.proofs.MajorityLaws.{majority-same, majority-heard, no-some}
 use Rattle.memory.specs.Node.{counterFrom, cellFrom}
 use Rattle.system.specs.Fault.{faultMessageAt}
-use Rattle.rows.specs.Rows.{wordPlace}
+use Rattle.rows.specs.Code.{wordPlace}
 use Rattle.row_vote.specs.Code.{votedAt, isGood, goodOnly, heardOf, heardCounter, heardWord, sentWord, counterAfter, takes, wordAfter}
 
 -- a test that the code makes

@@ -11,7 +11,7 @@ use lib.Seq.{getD-set-same, getD-set-other}
 use borrow.Author.Tests.{eqb-true, eqb-false}
 use Rattle.array.proofs.TestLaws.{split, clash}
 use Rattle.plan.specs.Limits.{mostCells}
-use Rattle.rows.specs.Rows.{wordPlace}
+use Rattle.rows.specs.Code.{wordPlace}
 use Rattle.row_vote.specs.Code.{Put, votedAt, isGood, takes}
 
 -- no two have one place

@@ -19,7 +19,7 @@ use Rattle.ballot.specs.Majority.{majority, orOwn}
 use Rattle.memory.specs.declared.Memory.{Memory}
 use Rattle.memory.specs.Node.{counterFrom, cellFrom}
 use Rattle.system.specs.Fault.{faultMessageAt}
-use Rattle.rows.specs.Rows.{wordCount, wordPlace, rowOf, memoryIn, Through}
+use Rattle.rows.specs.Code.{wordCount, wordPlace, rowOf, memoryIn, Through}
 use Rattle.rows.proofs.RowLaws.{row-at, row-length, row-same, memory-eq}
 use Rattle.row_vote.specs.Code.{Put, frameBefore, votedAt, isGood, goodOnly, sentWord, agreedFrame, votedBy, heardCounter, heardWord, counterAfter, takes, wordAfter, sentFrame, votedRow, votedWord}
 use Rattle.row_vote.proofs.PutLaws.{put-idle}

@@ -15,7 +15,7 @@ use Rattle.ballot.specs.Majority.{majority, orOwn}
 use Rattle.memory.specs.declared.Memory.{Memory}
 use Rattle.memory.specs.Node.{counterFrom, cellFrom}
 use Rattle.system.specs.Fault.{faultMessageAt}
-use Rattle.rows.specs.Rows.{wordPlace}
+use Rattle.rows.specs.Code.{wordPlace}
 
 -- ---- values stored at places: of the first n, those that are taken
 

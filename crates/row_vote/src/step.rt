@@ -7,10 +7,10 @@ ghost use Prim.Native.Nat.{ℕ, suc, _+_, _<_, _≤_};
 ghost use lib.ListN.{length, getD, replicate};
 ghost use Rattle.array.specs.Index.{fill as filledWith};
 ghost use Rattle.plan.specs.Limits.{mostNodes, mostFrames, mostCells};
-ghost use Rattle.ballot.specs.Majority.{orOwn, majority as majorityOf, valueOf};
+ghost use Rattle.ballot.specs.Majority.{orOwn, majority as majorityOf, votedValue};
 ghost use Rattle.ballot.specs.Code.{packed as packedIn, Told};
 ghost use Rattle.faults.specs.Code.{Small, Parts};
-ghost use Rattle.rows.specs.Rows.{rowCount, wordCount, wordPlace, Through};
+ghost use Rattle.rows.specs.Code.{rowCount, wordCount, wordPlace, Through};
 ghost use Rattle.row_vote.specs.Code.{Put, frameBefore, votedAt, isGood, goodOnly, sentWord, agreedFrame, heardCounter, heardWord, counterAfter, wordAfter, votedRow, takes, votedWord};
 use ballot::Voted;
 use plan::Plan;
@@ -62,7 +62,7 @@ fn good_ones(words: &[u64; System::NODES], nodes: usize, mask: u64) -> Good
 // What more than half of the nodes sent as good ones.
 fn decided(words: &[u64; System::NODES], nodes: usize, mask: u64) -> Voted
     requires { ⌜ nodes ≤ mostNodes ⌝ }
-    ensures { λ r. ⌜ valueOf r ≡ majorityOf (goodOnly mask (λ j. getD (now (words .entry)) j 0)) nodes ⌝ }
+    ensures { λ r. ⌜ votedValue r ≡ majorityOf (goodOnly mask (λ j. getD (now (words .entry)) j 0)) nodes ⌝ }
 {
     if mask == 0 {
         return ballot::step::majority(words, nodes, nodes);

@@ -26,7 +26,7 @@ use Rattle.memory.specs.Node.{zeroMemory, computed}
 use Rattle.memory.proofs.StepLaws.{computed-is}
 use Rattle.system.specs.declared.System.{System}
 use Rattle.system.specs.Frame.{memoryOf, sameMemory}
-use Rattle.rows.specs.Rows.{rowOf, memoryIn, Rows, Stored, Through, sameRow}
+use Rattle.rows.specs.Code.{rowOf, memoryIn, Rows, Stored, Through, sameRow}
 
 -- ---- a row by its words
 
@@ -284,7 +284,7 @@ unfolding sameMemory
 same-is p a b c d e f g = rw (e, f, g)
 
 -- the count over rows is the count over memories
-pub agreeing-is :
+pub equal-is :
     (p : Plan) (sys : System) (single : Memory) (counters cells good : List ℕ) {count : ℕ} (n : ℕ) →
     Rows sys counters cells good →
     memoryIn counters cells 0 ≡ single →
@@ -292,6 +292,6 @@ pub agreeing-is :
     n ≤ mostNodes →
     howMany (λ j. sameRow count counters cells (j + 1)) n ≡ howMany (λ i. sameMemory p (memoryOf sys i) single) n
 unfolding sameRow
-agreeing-is p sys single counters cells good n h e k few =
+equal-is p sys single counters cells good n h e k few =
     howMany-same _ _ n
     (λ j l. rw (add-one j) (same-is p (memoryIn counters cells (suc j)) (memoryIn counters cells 0) (memoryOf sys j) single k (h .node-is j (omega arith)) e))

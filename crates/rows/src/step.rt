@@ -4,7 +4,7 @@ ghost use Prim.Native.Nat.{_+_, _<_, _≤_};
 ghost use lib.ListN.{length};
 ghost use Rattle.array.specs.Index.{howMany};
 ghost use Rattle.plan.specs.Limits.{mostNodes, mostCells};
-ghost use Rattle.rows.specs.Rows.{rowCount, wordCount, wordPlace, rowOf, memoryIn, Rows, Stored, sameRow};
+ghost use Rattle.rows.specs.Code.{rowCount, wordCount, wordPlace, rowOf, memoryIn, Rows, Stored, sameRow};
 use memory::Memory;
 use plan::Plan;
 use system::System;
@@ -118,7 +118,7 @@ fn same_row(counters: &[u16], cells: &[u64], count: usize, r: usize) -> bool
     true
 }
 
-pub fn agreeing(counters: &[u16], cells: &[u64], nodes: usize, count: usize) -> usize
+pub fn equal(counters: &[u16], cells: &[u64], nodes: usize, count: usize) -> usize
     requires { ⌜ (length (now counters) ≡ rowCount) × (length (now cells) ≡ wordCount) × (nodes ≤ mostNodes) × (count ≤ mostCells) ⌝ }
     ensures { λ r. ⌜ r ≡ howMany (λ j. sameRow count (now (counters .entry)) (now (cells .entry)) (j + 1)) nodes ⌝ }
 {

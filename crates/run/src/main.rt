@@ -1,27 +1,31 @@
 // The run program: reads plan.txt and run.txt, and prints the listing. It moves bytes; what is printed, what is refused and when the listing ends is
-// decided in `listing`.
+// decided in `lines` and `listing`.
 ghost use mathlib.Core.Path.{_≡_};
-ghost use mathlib.Core.Bool.{true};
-ghost use Prim.Native.Nat.{_*_, _<_, _≤_};
-ghost use lib.ListN.{length};
+ghost use mathlib.Core.Bool.{true, _&&_};
+ghost use Prim.Native.Nat.{_+_, _*_, _≤_};
+ghost use lib.Dec.{eqb};
+ghost use lib.ListN.{length, take};
+ghost use Rattle.answer.specs.Refusal.{numberOf};
 ghost use Rattle.plan.specs.Known.{period as periodOf};
 ghost use Rattle.plan.specs.Accepted.{accepted};
 ghost use Rattle.plan.specs.Limits.{mostNodes};
 ghost use Rattle.plan.specs.Sizes.{sizesOf};
 ghost use Rattle.system.specs.Fault.{faultsSize};
 ghost use Rattle.faults.specs.Code.{Held};
-ghost use Rattle.lines.specs.Line.{runLineSize, printedSize};
-ghost use Rattle.lines.specs.Listing.{mostLines};
-ghost use Rattle.lines.specs.Step.{blockLines};
+ghost use Rattle.lines.specs.Line.{runLineSize, printedSize, refusalSize};
+ghost use Rattle.lines.specs.Listing.{mostRunLines};
+ghost use Rattle.lines.specs.Code.{blockLines, linesAnswer};
+ghost use Rattle.lines.specs.Blocks.{LaidBlock};
 use answer::Answer;
 use libc::STDOUT_FILENO;
+use lines::Printed;
 use lines::Run;
 use system::System;
 
-// The longest block of run lines, and of printed ones.
+// The longest block of run lines, and of printed ones with the line of a refusal.
 const INPUT: usize = lines::step::BLOCK * 329;
 
-const OUTPUT: usize = lines::step::BLOCK * 177;
+const OUTPUT: usize = lines::step::BLOCK * 177 + lines::step::REFUSAL;
 
 // More than the longest plan text, so that a longer file is seen to be too long.
 const TEXT: usize = plan_line::Line::TEXT + 1;
@@ -32,8 +36,41 @@ fn print_refusal(answer: Answer) {
     io::write_all(STDOUT_FILENO, &line);
 }
 
-// Whether the file may have more lines, and the run after those read.
+// What the lines of a block print, with the line of a refusal, and the run after them.
+fn listed(
+    run: Run,
+    rest: &[u8],
+    held: &mut [u8; System::NODES],
+    faults: &mut [u8],
+    out: &mut [u8],
+) -> Printed
+    requires { ⌜ (accepted (run .plan) ≡ true) × (run .period ≡ periodOf (run .plan)) × (run .frame ≤ mostRunLines) × (length (now rest) ≤ blockLines * runLineSize (run .plan .sensors)) × (length (now held) ≡ mostNodes) × (length (now faults) ≡ faultsSize (sizesOf (run .plan))) × Held (sizesOf (run .plan)) (now held) (now faults) × (blockLines * printedSize (run .plan .actuators) + refusalSize ≤ length (now out)) ⌝ }
+    ensures { λ r. ⌜ (r .answer ≡ linesAnswer run (now (rest .entry)) .answer) × LaidBlock run (now (rest .entry)) (now (out .exit)) (r .count) (r .run) × (length (now (held .exit)) ≡ mostNodes) × Held (sizesOf (run .plan)) (now (held .exit)) (now (faults .exit)) ⌝ }
+{
+    let r = lines::step::lines(run, rest, held, faults, out);
+    let answer = r.answer;
+    let count = r.count;
+    let next = r.run;
+    if answer.number() == 0 {
+        return Printed {
+            answer: answer,
+            count: count,
+            run: next,
+        };
+    }
+    let end = count + lines::step::REFUSAL;
+    lines::step::write_refusal(&mut out[count..end], answer);
+    Printed {
+        answer: answer,
+        count: end,
+        run: next,
+    }
+}
+
+// How many bytes were read and printed, whether the file may have more lines, and the run after those read.
 struct Read {
+    got: usize,
+    printed: usize,
     more: bool,
     run: Run,
 }
@@ -47,31 +84,27 @@ fn block(
     faults: &mut [u8],
     out: &mut [u8],
 ) -> Read
-    requires { ⌜ (accepted (run .plan) ≡ true) × (run .period ≡ periodOf (run .plan)) × (run .frame ≤ mostLines) × (0 < length (now input)) × (length (now input) ≤ blockLines * runLineSize (run .plan .sensors)) × (length (now held) ≡ mostNodes) × (length (now faults) ≡ faultsSize (sizesOf (run .plan))) × Held (sizesOf (run .plan)) (now held) (now faults) × (blockLines * printedSize (run .plan .actuators) ≤ length (now out)) ⌝ }
-    ensures { λ r. ⌜ (length (now (input .exit)) ≡ length (now (input .entry))) × (length (now (held .exit)) ≡ mostNodes) × (length (now (faults .exit)) ≡ length (now (faults .entry))) × Held (sizesOf (run .plan)) (now (held .exit)) (now (faults .exit)) × (length (now (out .exit)) ≡ length (now (out .entry))) × (r .run .plan ≡ run .plan) × (r .run .period ≡ run .period) × (r .run .frame ≤ mostLines) × (r .more ≡ true → run .frame < r .run .frame) ⌝ }
+    requires { ⌜ (accepted (run .plan) ≡ true) × (run .period ≡ periodOf (run .plan)) × (run .frame ≤ mostRunLines) × (length (now input) ≤ blockLines * runLineSize (run .plan .sensors)) × (length (now held) ≡ mostNodes) × (length (now faults) ≡ faultsSize (sizesOf (run .plan))) × Held (sizesOf (run .plan)) (now held) (now faults) × (blockLines * printedSize (run .plan .actuators) + refusalSize ≤ length (now out)) ⌝ }
+    ensures { λ r. ⌜ (length (now (input .exit)) ≡ length (now (input .entry))) × (r .got ≤ length (now (input .exit))) × LaidBlock run (take (r .got) (now (input .exit))) (now (out .exit)) (r .printed) (r .run) × (r .more ≡ (eqb (numberOf (linesAnswer run (take (r .got) (now (input .exit))) .answer)) 0 && eqb (r .got) (length (now (input .exit))))) × (length (now (held .exit)) ≡ mostNodes) × (length (now (faults .exit)) ≡ length (now (faults .entry))) × Held (sizesOf (run .plan)) (now (held .exit)) (now (faults .exit)) × (length (now (out .exit)) ≡ length (now (out .entry))) ⌝ }
 {
     let got = io::read_full(file, input);
-    let r = lines::step::lines(run, &input[0..got], held, faults, out);
-    let next = r.run;
+    let r = listed(run, &input[0..got], held, faults, out);
     let printed = r.count;
     io::write_all(STDOUT_FILENO, &out[0..printed]);
     let answer = r.answer;
-    if answer.number() != 0 {
-        print_refusal(answer);
-        return Read {
-            more: false,
-            run: next,
-        };
-    }
+    let next = r.run;
+    let whole = got == input.len();
     Read {
-        more: got == input.len(),
+        got: got,
+        printed: printed,
+        more: (answer.number() == 0) & whole,
         run: next,
     }
 }
 
 // The lines of the file, block by block.
 fn follow(file: i32, start: Run)
-    requires { ⌜ (accepted (start .plan) ≡ true) × (start .period ≡ periodOf (start .plan)) × (start .frame ≤ mostLines) ⌝ }
+    requires { ⌜ (accepted (start .plan) ≡ true) × (start .period ≡ periodOf (start .plan)) × (start .frame ≤ mostRunLines) ⌝ }
 {
     let size = lines::step::BLOCK * lines::step::line_size(start.plan.sensors);
     let bytes = faults::step::size(plan::numbers_of(start.plan, start.period));

@@ -4,16 +4,17 @@ use lib.Ieee.{ofBits, toBits, lt, isNan, add}
 use Rattle.array.specs.Index.{howMany, allBelow, allIn, fill, joined}
 use Rattle.array.specs.Word.{be, bytes}
 use Rattle.pattern.specs.Pattern.{sumOf, limitOf}
-use Rattle.numeral.specs.Numeral.{decimal, wellFormed, numeralOf}
-use Rattle.column.specs.Column.{dropBlanks, numberOf, mark, front, column}
-use Rattle.column.specs.Row.{row, numbersFrom, numbersOf}
+use Rattle.numeral.specs.Numeral.{decimal, isNumeral, numeralOf}
+use Rattle.column.specs.Column.{dropBlanks, numberShown, mark, front, column}
+use Rattle.column.specs.Row.{row, numbersFrom, numbersShown}
 use Rattle.plan.specs.Known.{votedIn, reads, readsKnown, knowTask, knowTasks, knowVoted, knowFrame, known, allKnown, periodTo, period}
 use Rattle.plan.specs.Accepted.{headerOk, constantsOk, opOk, taskOk}
-use Rattle.text.specs.Line.{numbersAt, lineAt, isTask}
-use Rattle.text.specs.Written.{written}
-use Rattle.text.specs.Meant.{opOf, taskOf, headerWith, initialWith, countWith, tasksWith, votedWith, actuatorsWith, withLine, planTo, planOf}
-use Rattle.text.specs.Refused.{lengthOk, isHeader, afterCells, taskInOrder, voteInOrder, actuatorInOrder, inOrder, taskZeros, inRange, rulesOf, formOrRules, lineRefusal, firstRefusal, isLast, endRefusal, periodRefusal, linesRefusal, textRefusal}
-use Rattle.plan_text.specs.Answers.{unlessRefused, readAnswer}
+use Rattle.plan_grammar.specs.Line.{numbersAt, lineAt, isTask}
+use Rattle.plan_grammar.specs.Written.{written}
+use Rattle.plan_grammar.specs.Meant.{opOf, taskOf, headerWith, initialWith, countWith, tasksWith, votedWith, actuatorsWith, withLine, planTo, planOf}
+use Rattle.plan_grammar.specs.Refused.{lengthOk, isHeader, afterCells, taskInOrder, voteInOrder, actuatorInOrder, inOrder, taskZeros, inRange, rulesOf, formOrRules, lineRefusal, firstRefusal, isLast, endRefusal, periodRefusal, linesRefusal, textRefusal}
+use Rattle.answer.specs.Tests.{unlessRefused}
+use Rattle.plan_text.specs.Answers.{readAnswer}
 use Rattle.task.specs.Task.{opValue, runTask, runTasks}
 use Rattle.ballot.specs.Majority.{holds, holders, shared, firstShared, majority, orOwn}
 use Rattle.ballot.specs.Plane.{backing, mostHeld, plane}
@@ -23,7 +24,7 @@ use Rattle.short_table.specs.ShortTable.{linesK, linesTake, planK, planT
 pub short-table : ShortTable
 unfolding linesK linesTake planK planTake mailbox countersVoted cellsVoted planeOf late
     howMany allBelow allIn fill joined be bytes ofBits toBits lt isNan add sumOf limitOf
-    dropBlanks decimal wellFormed numeralOf numberOf mark front column row numbersFrom numbersOf
+    dropBlanks decimal isNumeral numeralOf numberShown mark front column row numbersFrom numbersShown
     votedIn reads readsKnown knowTask knowTasks knowVoted knowFrame known allKnown periodTo period headerOk constantsOk opOk taskOk
     numbersAt lineAt isTask written opOf taskOf headerWith initialWith countWith tasksWith votedWith actuatorsWith withLine planTo planOf
     lengthOk isHeader afterCells taskInOrder voteInOrder actuatorInOrder inOrder taskZeros inRange rulesOf formOrRules lineRefusal firstRefusal

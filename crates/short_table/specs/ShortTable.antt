@@ -13,7 +13,7 @@ use Rattle.plan.specs.declared.Op.the-variants.{Take, Sum, Limit}
 use Rattle.plan.specs.declared.Plan.{Plan}
 use Rattle.plan.specs.Limits.{mostFrames, mostCells, mostTasks, mostActuators}
 use Rattle.plan.specs.Known.{unusedTask, votePlace, period}
-use Rattle.text.specs.Written.{written}
+use Rattle.plan_grammar.specs.Written.{written}
 use Rattle.plan_text.specs.Answers.{readAnswer}
 use Rattle.task.specs.Task.{opValue}
 use Rattle.ballot.specs.Plane.{plane}

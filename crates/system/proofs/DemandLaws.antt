@@ -8,6 +8,10 @@ use native.Mathlib.Nat.{zero-mod, mod-lt}
 use lib.ListN.{length}
 use Rattle.array.proofs.TestLaws.{split, clash, and-left}
 use Rattle.answer.specs.declared.Answer.{Answer}
+use Rattle.answer.specs.declared.Answer.the-variants.{InvalidPlan, WrongLength, MaskOrCount}
+use Rattle.answer.specs.Refusal.{numberOf}
+use Rattle.answer.specs.Tests.{numberIn, passed, answerOf, answered, ifPassed}
+use Rattle.answer.proofs.TestLaws.{AllNamed, named-by, answered-number}
 use Rattle.plan.specs.declared.Plan.{Plan}
 use Rattle.plan.specs.Known.{known, period}
 use Rattle.plan.specs.Accepted.{accepted}
@@ -19,8 +23,8 @@ use Rattle.system.specs.declared.System.{System}
 use Rattle.system.specs.System.{powerOn}
 use Rattle.system.specs.Fault.{bad}
 use Rattle.system.specs.Counts.{goodCount}
-use Rattle.system.specs.Frame.{memoryOf, goodOf, countsOk, inTurn, frameRuns, frameAnswer, framePlace, singlePlace}
-use Rattle.system.specs.Demand.{Call, callLengths, callAnswer, isFrame, next, answers, places, finally, singleNext, singlePlaces, singleFinally, callAnswers, masks, goodIn, MostGood, Premise, OnePlan, Demand3}
+use Rattle.system.specs.Frame.{memoryOf, goodOf, maskOk, countsOk, frameTests, frameAnswer, framePlace, singlePlace}
+use Rattle.system.specs.Demand.{Call, callLengths, callTests, callAnswer, isFrame, next, answers, places, finally, singleNext, singlePlaces, singleFinally, callAnswers, masks, goodIn, MostGood, Premise, OnePlan, Demand3}
 use Rattle.system.proofs.CountLaws.{Counts, counts-start, counts-ok, counts-after}
 use Rattle.system.proofs.StateLaws.{State, state-start, state-whole, state-after, counter-after, place-after, Trusted, state-trusted}
 
@@ -36,25 +40,30 @@ singlePuts s c = cond (isFrame c) (singlePlace (c .plan) (singleNext s c) (c .pl
 
 module _ (sys : System) (c : Call) where
   abbrev runs : Bool
-  runs = frameRuns (c .plan) sys (c .sensors) (c .mask) (c .faults) (c .place)
+  runs = passed (frameTests (c .plan) sys (c .sensors) (c .mask) (c .faults) (c .place))
 
   -- where no good count is above R, the tests are those of plan record, mask and lengths
   module _ (counts : accepted (c .plan) ≡ true → countsOk (c .plan) sys ≡ true) where
     runs-frame : runs ≡ isFrame c
-    unfolding frameRuns isFrame callLengths
-    runs-frame = split (accepted (c .plan)) (λ e. rw (counts e, and-true)) (λ e. rw e)
+    unfolding passed frameTests isFrame callTests callLengths
+    runs-frame = split (accepted (c .plan)) (λ e. rw (counts e, and-true (maskOk (c .plan) (c .mask)))) (λ e. rw e)
 
     answer-frame : frameAnswer (c .plan) sys (c .sensors) (c .mask) (c .faults) (c .place) .answer ≡ callAnswer c
-    unfolding frameAnswer callAnswer callLengths inTurn
-    answer-frame = split (accepted (c .plan)) (λ e. rw (counts e, and-true)) (λ e. rw e)
+    unfolding answered answerOf frameAnswer frameTests callAnswer callTests callLengths
+    answer-frame = split (accepted (c .plan)) (λ e. rw (counts e, and-true (maskOk (c .plan) (c .mask)))) (λ e. rw e)
+
+-- the refusal's number is that of the first test that fails
+pub call-number : (c : Call) → numberOf (callAnswer c) ≡ numberIn (callTests c)
+unfolding callAnswer callTests AllNamed
+call-number c = answered-number (callTests c) (named-by InvalidPlan _, (named-by MaskOrCount _, (named-by WrongLength _, tt)))
 
 -- the plan of a call that is not refused with 7 is p
 accepted-is : {p : Plan} (c : Call) → (c .plan ≡ p) ⊎ (accepted (c .plan) ≡ false) → accepted (c .plan) ≡ true → c .plan ≡ p
 accepted-is c plan e = ⊎-elim (λ q. q) (λ f. absurd (clash e f)) plan
 
 frame-is : {p : Plan} (c : Call) → (c .plan ≡ p) ⊎ (accepted (c .plan) ≡ false) → isFrame c ≡ true → c .plan ≡ p
-unfolding isFrame
-frame-is c plan e = accepted-is c plan (and-left _ _ (and-left _ (callLengths c) e))
+unfolding passed isFrame callTests
+frame-is c plan e = accepted-is c plan (and-left _ _ e)
 
 record Called (p : Plan) (sys : System) (s : Memory) (past : List ℕ) (c : Call) : Type 0 where
   state : State p (next sys c) (singleNext s c) (since c past)
@@ -67,7 +76,7 @@ call :
     (c .plan ≡ p) ⊎ (accepted (c .plan) ≡ false) →
     (isFrame c ≡ true → MostGood p (c .mask) past) →
     Called p sys s past c
-unfolding next singleNext frameAnswer framePlace
+unfolding ifPassed next singleNext frameAnswer framePlace
 call p accept sys s past c st plan most = split (isFrame c) frame refused
   where
     counts : accepted (c .plan) ≡ true → countsOk (c .plan) sys ≡ true
@@ -146,7 +155,7 @@ module _ (p : Plan) where
       (c : Call) → (c .plan ≡ p) ⊎ (accepted (c .plan) ≡ false) → (sys : System) (past : List ℕ) →
       Counts p sys past →
       Counts p (next sys c) (since c past)
-  unfolding next frameAnswer
+  unfolding ifPassed next frameAnswer
   counts-next c plan sys past h =
       let ok : accepted (c .plan) ≡ true → countsOk (c .plan) sys ≡ true = λ e. rw (accepted-is c plan e) (counts-ok p sys past h) in
       split (isFrame c)

@@ -32,11 +32,8 @@ module _ (s : Sizes) (faults : List ℕ) (i : ℕ) where
 pub part-room : (s : Sizes) (i n : ℕ) → i < n → faultAt s i + faultSize s ≤ n * faultSize s
 part-room s i n l = bin-ends i (faultSize s) l (le-refl _)
 
--- in the part of node j: cell c of its memory, its message to node i, its setpoint for actuator a
+-- in the part of node j: its message to node i, its setpoint for actuator a
 module _ (s : Sizes) (j : ℕ) where
-  pub memory-room : (c : ℕ) → c < s .cells → faultAt s j + cellAt c + patternSize ≤ faultAt s j + faultSize s
-  memory-room c l = omega arith
-
   pub message-room : (i : ℕ) → i < s .nodes → faultMessageAt s j i + binBytes (s .cells) ≤ faultAt s j + faultSize s
   message-room i l = omega (arith, bin-ends i (binBytes (s .cells)) l (le-refl (s .nodes * binBytes (s .cells))))
 

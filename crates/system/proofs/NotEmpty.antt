@@ -16,6 +16,7 @@ use Rattle.array.proofs.TestLaws.{clash, and-false-right}
 use Rattle.pattern.specs.Pattern.{sumOf}
 use Rattle.answer.specs.declared.Answer.the-variants.{Done, InvalidPlan, WrongLength, MaskOrCount}
 use Rattle.plan.specs.declared.Op.the-variants.{Take, Sum}
+use Rattle.answer.specs.Tests.{passed, answerOf, answered, ifPassed}
 use Rattle.plan.specs.declared.Plan.{Plan}
 use Rattle.plan.specs.Known.{unusedTask, votedIn, reads, readsKnown, knowTask, knowTasks, knowVoted, knowFrame, known, allKnown, periodTo, period}
 use Rattle.plan.specs.Sizes.{sizesOf}
@@ -27,8 +28,8 @@ use Rattle.memory.specs.Node.{poweredOn, computed, before, sentCell, messageOf,
 use Rattle.system.specs.System.{powerOn}
 use Rattle.system.specs.Fault.{faultMemory, faultMessage, faultSetpoint}
 use Rattle.system.specs.Counts.{countAfter, goodAfter}
-use Rattle.system.specs.Frame.{memoryOf, computedBy, heard, mailboxOf, memoryAfter, putOut, systemAfter, placeAfter, maskOk, countsOk, lengthsOk, inTurn, frameRuns, frameAnswer, framePlace, singlePlace}
-use Rattle.system.specs.Demand.{Call, callLengths, callAnswer, isFrame, next, answers, places, finally, singleNext, singlePlaces, singleFinally, callAnswers, masks, goodIn, MostGood, Premise, OnePlan, Masked}
+use Rattle.system.specs.Frame.{memoryOf, computedBy, heard, mailboxOf, memoryAfter, putOut, systemAfter, placeAfter, maskOk, countsOk, lengthsOk, frameTests, frameAnswer, framePlace, singlePlace}
+use Rattle.system.specs.Demand.{Call, callLengths, callTests, callAnswer, isFrame, next, answers, places, finally, singleNext, singlePlaces, singleFinally, callAnswers, masks, goodIn, MostGood, Premise, OnePlan, Tolerated}
 use Rattle.system.proofs.DemandLaws.{demand3}
 
 -- ---- plan K
@@ -128,13 +129,13 @@ unfolding OnePlan runK call
 runK-plan = (inl refl, (inl refl, (inl refl, (inl refl, (inl refl, (inl refl, tt))))))
 
 pub runK-premise : Premise planK runK []
-unfolding Premise MostGood goodIn isFrame callLengths lengthsOk maskOk runK call filled bit howMany
+unfolding Premise MostGood goodIn passed isFrame callTests callLengths lengthsOk maskOk runK call filled bit howMany
     planK plan noVotes period periodTo allKnown known knowFrame knowVoted knowTasks knowTask readsKnown reads votedIn allBelow allIn
 runK-premise = rw planK-accepted (λ e. lit< tt, (λ e. lit< tt, (λ e. lit< tt, (λ e. lit< tt, (λ e. lit< tt, (λ e. lit< tt, tt))))))
 
 runK-single :
     singlePlaces (poweredOn planK) runK ≡ (0 ∷ []) ∷ (one ∷ []) ∷ (one ∷ []) ∷ (three ∷ []) ∷ (three ∷ []) ∷ (six ∷ []) ∷ []
-unfolding singlePlaces singleNext isFrame callLengths lengthsOk maskOk runK call filled poweredOn computed singlePlace setpoint
+unfolding singlePlaces singleNext passed isFrame callTests callLengths lengthsOk maskOk runK call filled poweredOn computed singlePlace setpoint
     runTasks runTask opValue sumOf fill ofBits toBits isNan add planK plan noVotes
 runK-single = rw planK-accepted refl
 
@@ -175,7 +176,7 @@ unfolding OnePlan mixed call
 mixed-plan = (inl refl, (inr planZ-refused, (inl refl, (inl refl, (inl refl, (inl refl, (inl refl, (inl refl, (inl refl, tt)))))))))
 
 pub mixed-premise : Premise planK mixed []
-unfolding Premise MostGood goodIn isFrame callLengths lengthsOk maskOk mixed call varied filled bit howMany
+unfolding Premise MostGood goodIn passed isFrame callTests callLengths lengthsOk maskOk mixed call varied filled bit howMany
     planK planZ plan noVotes period periodTo allKnown known knowFrame knowVoted knowTasks knowTask readsKnown reads votedIn allBelow allIn
 mixed-premise =
     rw (planK-accepted, planZ-refused)
@@ -189,14 +190,14 @@ unfolding faultMessage varied filled from planK plan
 mixed-messages e = omega (arith, ap (λ (l : List ℕ). getD l 0 0) e)
 
 mixed-calls : callAnswers mixed ≡ Done ∷ InvalidPlan ∷ Done ∷ MaskOrCount ∷ Done ∷ WrongLength ∷ Done ∷ Done ∷ Done ∷ []
-unfolding callAnswers callAnswer callLengths lengthsOk maskOk inTurn mixed call varied filled planK planZ plan noVotes
+unfolding answered answerOf callAnswers callAnswer callTests callLengths lengthsOk maskOk mixed call varied filled planK planZ plan noVotes
 mixed-calls = rw (planK-accepted, planZ-refused) refl
 
 pub mixed-refusals : answers (powerOn planK) mixed ≡ Done ∷ InvalidPlan ∷ Done ∷ MaskOrCount ∷ Done ∷ WrongLength ∷ Done ∷ Done ∷ Done ∷ []
 mixed-refusals = demand3 planK planK-accepted mixed mixed-plan mixed-premise .refusals ∙ mixed-calls
 
 mixed-good : goodIn 0 (take (period planK) (masks mixed [])) ≡ true
-unfolding goodIn masks isFrame callLengths lengthsOk maskOk mixed call varied filled bit
+unfolding goodIn masks passed isFrame callTests callLengths lengthsOk maskOk mixed call varied filled bit
     planK planZ plan noVotes period periodTo allKnown known knowFrame knowVoted knowTasks knowTask readsKnown reads votedIn allBelow allIn
 mixed-good = rw planK-accepted refl
 
@@ -212,7 +213,7 @@ outside : List Call
 outside = call planK 3 filled one (lit< tt) ∷ []
 
 outside-places : places (powerOn planK) outside ≡ (18446744073709551615 ∷ []) ∷ []
-unfolding places framePlace frameRuns countsOk maskOk lengthsOk outside call filled powerOn poweredOn placeAfter memoryAfter putOut computedBy heard mailboxOf
+unfolding passed ifPassed places framePlace frameTests countsOk maskOk lengthsOk outside call filled powerOn poweredOn placeAfter memoryAfter putOut computedBy heard mailboxOf
     faultMemory faultMessage faultSetpoint plane mostHeld backing computed messageOf binOf sentCell before voted votedCounter votedCell orOwn counterFrom
     cellFrom counterIn cellIn setpoint majority firstShared shared holders holds runTasks runTask opValue sumOf votedIn howMany fill joined from be bytes
     bit ofBits toBits isNan add
@@ -220,7 +221,7 @@ unfolding places framePlace frameRuns countsOk maskOk lengthsOk outside call fil
 outside-places = rw planK-accepted refl
 
 outside-single : singlePlaces (poweredOn planK) outside ≡ (0 ∷ []) ∷ []
-unfolding singlePlaces singleNext isFrame callLengths lengthsOk maskOk outside call filled poweredOn computed singlePlace setpoint
+unfolding singlePlaces singleNext passed isFrame callTests callLengths lengthsOk maskOk outside call filled poweredOn computed singlePlace setpoint
     runTasks runTask opValue sumOf fill ofBits toBits isNan add planK plan noVotes
 outside-single = rw planK-accepted refl
 
@@ -233,7 +234,7 @@ valueIn : ℕ → List (List ℕ) → ℕ
 valueIn k l = getD (getD l k []) 0 0
 
 -- without the premise the demand is false
-pub premise-needed : ((p : Plan) → accepted p ≡ true → (cs : List Call) → OnePlan p cs → Masked p cs) → ⊥
+pub premise-needed : ((p : Plan) → accepted p ≡ true → (cs : List Call) → OnePlan p cs → Tolerated p cs) → ⊥
 unfolding valueIn
 premise-needed demand =
     omega (arith, ap (valueIn 0) (sym outside-places ∙ demand planK planK-accepted outside outside-plan .setpoints ∙ outside-single))
@@ -256,7 +257,7 @@ unfolding MostNow goodIn early call bit howMany planK plan
 early-now = (λ e. lit< tt, (λ e. lit< tt, tt))
 
 early-places : places (powerOn planK) early ≡ (0 ∷ []) ∷ (9221120237041090560 ∷ []) ∷ []
-unfolding places next frameAnswer framePlace frameRuns countsOk maskOk lengthsOk early call filled powerOn poweredOn systemAfter placeAfter memoryAfter
+unfolding passed ifPassed places next frameAnswer framePlace frameTests countsOk maskOk lengthsOk early call filled powerOn poweredOn systemAfter placeAfter memoryAfter
     goodAfter countAfter putOut computedBy heard mailboxOf faultMemory faultMessage faultSetpoint plane mostHeld backing computed messageOf binOf sentCell
     before voted votedCounter votedCell orOwn counterFrom cellFrom counterIn cellIn setpoint majority firstShared shared holders holds runTasks runTask
     opValue sumOf votedIn howMany fill joined from be bytes bit ofBits toBits isNan add planK plan noVotes period periodTo allKnown known knowFrame
@@ -264,12 +265,12 @@ unfolding places next frameAnswer framePlace frameRuns countsOk maskOk lengthsOk
 early-places = rw planK-accepted refl
 
 early-single : singlePlaces (poweredOn planK) early ≡ (0 ∷ []) ∷ (one ∷ []) ∷ []
-unfolding singlePlaces singleNext isFrame callLengths lengthsOk maskOk early call filled poweredOn computed singlePlace setpoint
+unfolding singlePlaces singleNext passed isFrame callTests callLengths lengthsOk maskOk early call filled poweredOn computed singlePlace setpoint
     runTasks runTask opValue sumOf fill ofBits toBits isNan add planK plan noVotes
 early-single = rw planK-accepted refl
 
 -- so the R frames are needed
-pub recovery-needed : ((p : Plan) → accepted p ≡ true → (cs : List Call) → OnePlan p cs → MostNow p cs → Masked p cs) → ⊥
+pub recovery-needed : ((p : Plan) → accepted p ≡ true → (cs : List Call) → OnePlan p cs → MostNow p cs → Tolerated p cs) → ⊥
 unfolding valueIn
 recovery-needed demand =
     omega (arith, ap (valueIn 1) (sym early-places ∙ demand planK planK-accepted early early-plan early-now .setpoints ∙ early-single))

@@ -4,14 +4,15 @@ use mathlib.Core.Bool.{true, false}
 use Prim.Native.Nat.{ℕ}
 use Rattle.array.specs.Index.{fill}
 use Rattle.answer.specs.declared.Answer.the-variants.{Done, InvalidPlan}
+use Rattle.answer.specs.Tests.{passed, answerOf, answered, ifPassed}
 use Rattle.plan.specs.declared.Plan.{Plan}
 use Rattle.plan.specs.Known.{period}
 use Rattle.plan.specs.Accepted.{accepted}
-use Rattle.recovery.specs.Answers.{checked}
+use Rattle.plan_period.specs.Answers.{planTests, checked}
 use Rattle.memory.specs.declared.Memory.{Memory}
 use Rattle.memory.specs.Node.{poweredOn}
 use Rattle.system.specs.declared.System.{System}
-use Rattle.system.specs.System.{zeroSystem, powerOn, powerOnAnswer}
+use Rattle.system.specs.System.{zeroSystem, powerOn, systemPowerOnAnswer}
 
 module _ (p : Plan) where
   pub powerOn-is :
@@ -27,10 +28,10 @@ module _ (p : Plan) where
       let b₁ : sys .good ≡ fill (λ k. period p) (p .nodes) (zeroSystem .good) = b ∙ ap (λ (x : ℕ). fill (λ k. x) (p .nodes) (zeroSystem .good)) r in
       λ i. record { memories = a₁ i; good = b₁ i }
 
-  pub powerOn-refused : (sys : System) → accepted p ≡ false → sys ≡ zeroSystem → record { answer = InvalidPlan; system = sys } ≡ powerOnAnswer p
-  unfolding powerOnAnswer checked
+  pub powerOn-refused : (sys : System) → accepted p ≡ false → sys ≡ zeroSystem → record { answer = InvalidPlan; system = sys } ≡ systemPowerOnAnswer p
+  unfolding systemPowerOnAnswer checked planTests answered passed ifPassed answerOf
   powerOn-refused sys a e = rw (a, e)
 
-  pub powerOn-done : (sys : System) → accepted p ≡ true → sys ≡ powerOn p → record { answer = Done; system = sys } ≡ powerOnAnswer p
-  unfolding powerOnAnswer checked
+  pub powerOn-done : (sys : System) → accepted p ≡ true → sys ≡ powerOn p → record { answer = Done; system = sys } ≡ systemPowerOnAnswer p
+  unfolding systemPowerOnAnswer checked planTests answered passed ifPassed answerOf
   powerOn-done sys a e = rw (a, e)

@@ -7,6 +7,7 @@ use Prim.Native.Nat.{ℕ, _*_, _^_, _<_}
 use lib.ListN.{getD, length, take}
 use Rattle.array.specs.Index.{howMany}
 use Rattle.answer.specs.declared.Answer.{Answer}
+use Rattle.answer.specs.Tests.{Test, test, passed, answered}
 use Rattle.plan.specs.declared.Plan.{Plan}
 use Rattle.plan.specs.Known.{period}
 use Rattle.plan.specs.Accepted.{accepted}
@@ -15,7 +16,7 @@ use Rattle.memory.specs.Node.{poweredOn, computed}
 use Rattle.system.specs.declared.System.{System}
 use Rattle.system.specs.System.{powerOn}
 use Rattle.system.specs.Fault.{bad}
-use Rattle.system.specs.Frame.{memoryOf, maskOk, lengthsOk, inTurn, frameAnswer, framePlace, singlePlace}
+use Rattle.system.specs.Frame.{memoryOf, maskOk, lengthsOk, frameAnswer, framePlace, singlePlace}
 
 -- a frame call: "each with sensors, mask, fault bytes and place of its own", and a plan record of its own
 pub record Call : Type 0 where
@@ -32,12 +33,15 @@ module _ (c : Call) where
   unfoldable pub callLengths : Bool
   callLengths = lengthsOk (c .plan) (length (c .sensors)) (length (c .faults)) (length (c .place))
 
+  unfoldable pub callTests : List Test
+  callTests = test 7 (accepted (c .plan)) ∷ test 9 (maskOk (c .plan) (c .mask)) ∷ test 8 callLengths ∷ []
+
   unfoldable pub callAnswer : Answer
-  callAnswer = inTurn (accepted (c .plan)) (maskOk (c .plan) (c .mask)) callLengths
+  callAnswer = answered callTests
 
   -- "A frame is a frame call not refused"
   unfoldable pub isFrame : Bool
-  isFrame = accepted (c .plan) && maskOk (c .plan) (c .mask) && callLengths
+  isFrame = passed callTests
 
 -- ---- the press: what each call answers, what stands in its place afterwards, and the record after the list
 
@@ -99,7 +103,7 @@ OnePlan p (c ∷ cs) = ((c .plan ≡ p) ⊎ (accepted (c .plan) ≡ false)) × O
 
 -- ---- what then holds, "whatever the others held, whatever they sent each neighbour and whatever setpoints they put out"
 
-pub record Masked (p : Plan) (cs : List Call) : Type 0 where
+pub record Tolerated (p : Plan) (cs : List Call) : Type 0 where
   -- "each frame's voted setpoints equal the single controller's in that frame"; a refused call leaves its place untouched
   pub setpoints : places (powerOn p) cs ≡ singlePlaces (poweredOn p) cs
   -- which calls are refused, and with what, follows from plan record, mask and lengths
@@ -112,4 +116,4 @@ pub record Masked (p : Plan) (cs : List Call) : Type 0 where
       memoryOf (finally (powerOn p) cs) i ≡ singleFinally (poweredOn p) cs
 
 abbrev pub Demand3 : Type 0
-Demand3 = (p : Plan) → accepted p ≡ true → (cs : List Call) → OnePlan p cs → Premise p cs [] → Masked p cs
+Demand3 = (p : Plan) → accepted p ≡ true → (cs : List Call) → OnePlan p cs → Premise p cs [] → Tolerated p cs

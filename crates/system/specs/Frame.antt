@@ -1,18 +1,17 @@
 -- A frame of the whole system under faults, the single controller, and the two counts of the run listing.
-use mathlib.Core.Bool.{Bool, true, cond, _&&_}
-use mathlib.Core.List.{List}
+use mathlib.Core.Bool.{Bool, cond, _&&_}
+use mathlib.Core.List.{List, [], _∷_}
 use mathlib.Core.Option.{Option, some, Option·getD}
 use Prim.Native.Nat.{ℕ, _^_}
 use lib.Dec.{eqb, leb, ltb}
 use lib.ListN.{getD, length}
 use Rattle.array.specs.Index.{howMany, allBelow, fill, joined}
-use Rattle.answer.specs.declared.Answer.{Answer}
-use Rattle.answer.specs.declared.Answer.the-variants.{Done, InvalidPlan, WrongLength, MaskOrCount}
+use Rattle.answer.specs.Tests.{Test, test, answered, ifPassed}
 use Rattle.plan.specs.declared.Plan.{Plan}
 use Rattle.plan.specs.Known.{period}
 use Rattle.plan.specs.Accepted.{accepted}
 use Rattle.memory.specs.declared.Memory.{Memory}
-use Rattle.node.specs.declared.Outcome.{Outcome}
+use Rattle.memory.specs.declared.Outcome.{Outcome}
 use Rattle.memory.specs.Node.{zeroMemory, computed, messageOf, binOf, voted, setpoint}
 use Rattle.ballot.specs.Plane.{plane}
 use Rattle.plan.specs.Sizes.{sizesOf}
@@ -72,25 +71,21 @@ countsOk p sys = allBelow (λ i. leb (goodOf sys i) (period p)) (p .nodes)
 unfoldable pub lengthsOk : Plan → ℕ → ℕ → ℕ → Bool
 lengthsOk p sensors faults place = eqb sensors (p .sensors) && eqb faults (faultsSize (sizesOf p)) && eqb place (p .actuators)
 
--- the refusal of a call by its three tests
-unfoldable pub inTurn : Bool → Bool → Bool → Answer
-inTurn plan mask lengths = cond plan (cond mask (cond lengths Done WrongLength) MaskOrCount) InvalidPlan
-
 -- ---- a frame call, refused or not: its answer with the record, and its place
 
 module _ (p : Plan) (sys : System) (sensors : List ℕ) (mask : ℕ) (faults : List ℕ) (place : List ℕ) where
-  unfoldable pub frameRuns : Bool
-  frameRuns = accepted p && (maskOk p mask && countsOk p sys) && lengthsOk p (length sensors) (length faults) (length place)
+  unfoldable pub frameTests : List Test
+  frameTests =
+      test 7 (accepted p)
+      ∷ test 9 (maskOk p mask && countsOk p sys)
+      ∷ test 8 (lengthsOk p (length sensors) (length faults) (length place))
+      ∷ []
 
   unfoldable pub frameAnswer : Framed
-  frameAnswer =
-      record {
-        answer = inTurn (accepted p) (maskOk p mask && countsOk p sys) (lengthsOk p (length sensors) (length faults) (length place));
-        system = cond frameRuns (systemAfter p sys sensors mask faults) sys;
-      }
+  frameAnswer = record { answer = answered frameTests; system = ifPassed frameTests (systemAfter p sys sensors mask faults) sys }
 
   unfoldable pub framePlace : List ℕ
-  framePlace = cond frameRuns (placeAfter p sys sensors mask faults place) place
+  framePlace = ifPassed frameTests (placeAfter p sys sensors mask faults place) place
 
 -- ---- the single controller: "it computes as above, and its setpoint i is then the pattern of the cell of actuator i .. It never votes."
 
@@ -98,36 +93,42 @@ unfoldable pub singlePlace : Plan → Memory → List ℕ → List ℕ
 singlePlace p m place = fill (setpoint p m) (p .actuators) place
 
 -- its frame as a call of its own: 7, 8
-unfoldable pub singleRuns : Plan → ℕ → ℕ → Bool
-singleRuns p sensors place = accepted p && (eqb sensors (p .sensors) && eqb place (p .actuators))
+unfoldable pub singleTests : Plan → ℕ → ℕ → List Test
+singleTests p sensors place = test 7 (accepted p) ∷ test 8 (eqb sensors (p .sensors) && eqb place (p .actuators)) ∷ []
 
 unfoldable pub singleAnswer : Plan → Memory → List ℕ → List ℕ → Outcome
 singleAnswer p m sensors place =
     record {
-      answer = inTurn (accepted p) true (eqb (length sensors) (p .sensors) && eqb (length place) (p .actuators));
-      memory = cond (singleRuns p (length sensors) (length place)) (computed p sensors m) m;
+      answer = answered (singleTests p (length sensors) (length place));
+      memory = ifPassed (singleTests p (length sensors) (length place)) (computed p sensors m) m;
     }
 
 unfoldable pub singlePlaceAfter : Plan → Memory → List ℕ → List ℕ → List ℕ
 singlePlaceAfter p m sensors place =
-    cond (singleRuns p (length sensors) (length place)) (singlePlace p (computed p sensors m) place) place
+    ifPassed (singleTests p (length sensors) (length place)) (singlePlace p (computed p sensors m) place) place
 
--- ---- the listing's two counts
+-- ---- the listing's two counts: 7, 9
+
+unfoldable pub workingTests : Plan → System → ℕ → List Test
+workingTests p sys mask = test 7 (accepted p) ∷ test 9 (maskOk p mask && countsOk p sys) ∷ []
 
 unfoldable pub workingAnswer : Plan → System → ℕ → Counted
 workingAnswer p sys mask =
     record {
-      answer = inTurn (accepted p) (maskOk p mask && countsOk p sys) true;
-      count = cond (accepted p && (maskOk p mask && countsOk p sys)) (howMany (isWorking (period p) mask (sys .good)) (p .nodes)) 0;
+      answer = answered (workingTests p sys mask);
+      count = ifPassed (workingTests p sys mask) (howMany (isWorking (period p) mask (sys .good)) (p .nodes)) 0;
     }
 
 -- "nodes whose memory then equals the single controller's": counter and C cells, by bits
 unfoldable pub sameMemory : Plan → Memory → Memory → Bool
 sameMemory p m s = eqb (m .counter) (s .counter) && allBelow (λ c. eqb (getD (m .cells) c 0) (getD (s .cells) c 0)) (p .cells)
 
-unfoldable pub agreeingAnswer : Plan → System → Memory → Counted
-agreeingAnswer p sys s =
+unfoldable pub equalTests : Plan → System → List Test
+equalTests p sys = test 7 (accepted p) ∷ test 9 (countsOk p sys) ∷ []
+
+unfoldable pub equalAnswer : Plan → System → Memory → Counted
+equalAnswer p sys s =
     record {
-      answer = inTurn (accepted p) (countsOk p sys) true;
-      count = cond (accepted p && countsOk p sys) (howMany (λ i. sameMemory p (memoryOf sys i) s) (p .nodes)) 0;
+      answer = answered (equalTests p sys);
+      count = ifPassed (equalTests p sys) (howMany (λ i. sameMemory p (memoryOf sys i) s) (p .nodes)) 0;
     }

@@ -1,12 +1,11 @@
 -- Document 01, 'Faults': "The system record begins at power-on: n memories and n good counts, each R, with zeros past them."
-use mathlib.Core.Bool.{cond}
 use lib.ListN.{replicate}
 use Rattle.array.specs.Index.{fill}
+use Rattle.answer.specs.Tests.{ifPassed}
 use Rattle.plan.specs.declared.Plan.{Plan}
 use Rattle.plan.specs.Limits.{mostNodes}
 use Rattle.plan.specs.Known.{period}
-use Rattle.plan.specs.Accepted.{accepted}
-use Rattle.recovery.specs.Answers.{checked}
+use Rattle.plan_period.specs.Answers.{planTests, checked}
 use Rattle.memory.specs.Node.{zeroMemory, poweredOn}
 use Rattle.system.specs.declared.System.{System}
 use Rattle.system.specs.declared.Started.{Started}
@@ -22,5 +21,5 @@ powerOn p =
       good = fill (λ i. period p) (p .nodes) (zeroSystem .good);
     }
 
-unfoldable pub powerOnAnswer : Plan → Started
-powerOnAnswer p = record { answer = checked p; system = cond (accepted p) (powerOn p) zeroSystem }
+unfoldable pub systemPowerOnAnswer : Plan → Started
+systemPowerOnAnswer p = record { answer = checked p; system = ifPassed (planTests p) (powerOn p) zeroSystem }

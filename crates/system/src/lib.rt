@@ -1,6 +1,6 @@
 // The whole system: its record and its constructor. The definitions of a frame under faults, and demand 3 over them, are in specs/ and proofs/.
 ghost use mathlib.Core.Path.{_≡_};
-ghost use Rattle.system.specs.System.{powerOnAnswer};
+ghost use Rattle.system.specs.System.{systemPowerOnAnswer};
 use answer::Answer;
 use memory::Memory;
 use plan::Plan;
@@ -40,9 +40,9 @@ impl System {
     pub const TASKS: usize = Plan::TASKS;
 
     pub fn power_on(plan: Plan) -> Started
-        ensures { λ r. ⌜ r ≡ powerOnAnswer plan ⌝ }
+        ensures { λ r. ⌜ r ≡ systemPowerOnAnswer plan ⌝ }
     {
-        let period = recovery::accepted_period(plan);
+        let period = plan_period::accepted_period(plan);
         if period == 0 {
             let system = System::zero();
             return Started {

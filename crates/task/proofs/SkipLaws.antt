@@ -1,9 +1,12 @@
 -- Laws of the tasks that a scan may skip: they stand by frame.
 use mathlib.Core.Path.{_≡_}
-use mathlib.Core.Logic.{_⊎_, ⊎-elim}
+use mathlib.Core.Bool.{cond}
 use Prim.Native.Nat.{ℕ, _≤_, _<_}
 use native.Mathlib.Omega.{arith}
 use native.Mathlib.Nat.{not-suc-le-zero}
+use lib.Dec.{eqb}
+use borrow.Author.Tests.{eqb-true}
+use Rattle.array.proofs.TestLaws.{split}
 use Rattle.plan.specs.declared.Plan.{Plan}
 use Rattle.plan.specs.Known.{taskAt}
 use Rattle.plan.proofs.AcceptedLaws.{Shape}
@@ -16,11 +19,12 @@ pub skips-none : (p : Plan) (g : ℕ) → Skips p g 0
 skips-none p g i l = absurd (not-suc-le-zero l)
 
 -- what was skipped for one node is skipped for the next one in the same frame
-pub skips-again : (p : Plan) {last skipped g r : ℕ} → (r ≡ 0) ⊎ ((g ≡ last) × (r ≡ skipped)) → Skips p last skipped → Skips p g r
-skips-again p {last} {skipped} {g} {r} h s = ⊎-elim (λ z. rw z (skips-none p g)) (λ z. rw (z .0, z .1) s) h
+module _ (last g : ℕ) {skipped r : ℕ} (h : r ≡ cond (eqb g last) skipped 0) where
+  pub skips-again : (p : Plan) → Skips p last skipped → Skips p g r
+  skips-again p s = split (eqb g last) (λ e. rw (h, e, eqb-true g last e) s) (λ e. rw (h, e) (skips-none p g))
 
-pub skips-few : {last skipped g r n : ℕ} → (r ≡ 0) ⊎ ((g ≡ last) × (r ≡ skipped)) → skipped ≤ n → r ≤ n
-skips-few h l = ⊎-elim (λ z. omega arith) (λ z. omega (arith, z .1)) h
+  pub skips-few : {n : ℕ} → skipped ≤ n → r ≤ n
+  skips-few l = split (eqb g last) (λ e. rw (h, e) l) (λ e. rw (h, e) (omega arith))
 
 module _ (p : Plan) (s : Shape p) {g k : ℕ} (l : k < p .«task_count») where
   -- the tasks before one of an earlier frame

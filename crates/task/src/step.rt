@@ -1,7 +1,8 @@
 // A task on the cells of a memory.
 ghost use mathlib.Core.Path.{_≡_};
-ghost use mathlib.Core.Logic.{_⊎_};
+ghost use mathlib.Core.Bool.{cond};
 ghost use Prim.Native.Nat.{_<_};
+ghost use lib.Dec.{eqb};
 ghost use lib.ListN.{length, getD, set};
 ghost use Rattle.plan.specs.Limits.{mostCells};
 ghost use Rattle.task.specs.Task.{opValue};
@@ -54,7 +55,7 @@ pub fn run_task_in(cells: &mut [u64], t: Task, sensors: &[u64])
 
 // Where the tasks of frame g may begin: after `skipped`, which are not of frame `last`, where that is g.
 pub fn begin(last: usize, skipped: usize, g: usize) -> usize
-    ensures { λ r. ⌜ (r ≡ 0) ⊎ ((g ≡ last) × (r ≡ skipped)) ⌝ }
+    ensures { λ r. ⌜ r ≡ cond (eqb g last) skipped 0 ⌝ }
 {
     if g == last { skipped } else { 0 }
 }

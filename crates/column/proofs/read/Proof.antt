@@ -2,12 +2,12 @@
 use mathlib.Core.Path.{ap, _∙_}
 use borrow.Author.Needs.{needs}
 use Rattle.numeral.specs.Numeral.{numeralOf}
-use Rattle.column.specs.Column.{numberOf}
+use Rattle.column.specs.Column.{numberShown}
 use Rattle.column.proofs.read.Statement.{statement}
 use Rattle.column.proofs.read.Tie as tie
 
 returns : tie.Need-returns
-unfolding numberOf
+unfolding numberShown
 returns c = c .numeral .ensures ∙ ap numeralOf (c .before .digits .ensures)
 
 pub read-spec : {M : Type 1} → statement M

@@ -5,7 +5,7 @@ use lib.ListN.{length}
 use borrow.Author.Tests.{not-true, not-false, eqb-true}
 use borrow.Author.Needs.{needs}
 use Rattle.array.proofs.TestLaws.{and-left, and-right}
-use Rattle.recovery.proofs.AnswerLaws.{accepted-period, accepted-of-period, refused-of-period}
+use Rattle.plan_period.proofs.AnswerLaws.{accepted-period, accepted-of-period, refused-of-period}
 use Rattle.frame.proofs.CallLaws.{single-plan, single-length, single-done}
 use Rattle.frame.proofs.single.Statement.{statement}
 use Rattle.frame.proofs.single.Tie as tie

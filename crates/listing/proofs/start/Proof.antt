@@ -5,10 +5,11 @@ use mathlib.Core.List.{List}
 use Prim.Native.Nat.{ℕ}
 use borrow.Author.Needs.{needs}
 use Rattle.answer.specs.declared.Answer.the-variants.{Done, InvalidPlan}
+use Rattle.answer.specs.Tests.{passed, answerOf, answered, ifPassed}
 use Rattle.plan.specs.declared.Plan.{Plan}
 use Rattle.plan.specs.Accepted.{accepted}
-use Rattle.recovery.specs.Answers.{checked, acceptedPeriod}
-use Rattle.recovery.proofs.AnswerLaws.{accepted-period, accepted-of-period, refused-of-period}
+use Rattle.plan_period.specs.Answers.{planTests, checked, acceptedPeriod}
+use Rattle.plan_period.proofs.AnswerLaws.{accepted-period, accepted-of-period, refused-of-period}
 use Rattle.plan_text.specs.declared.PlanRead.{PlanRead}
 use Rattle.plan_text.specs.Answers.{readAnswer, readPeriod}
 use Rattle.memory.specs.declared.Memory.{Memory}
@@ -24,11 +25,11 @@ use Rattle.listing.proofs.start.Tie as tie
 
 module _ (p : Plan) {m : Memory} where
   memory-done : accepted p ≡ true → m ≡ poweredOn p → record { answer = Done; memory = m } ≡ powerOnAnswer p
-  unfolding powerOnAnswer checked
+  unfolding powerOnAnswer checked planTests answered passed ifPassed answerOf
   memory-done a e = rw (a, e)
 
   memory-refused : accepted p ≡ false → m ≡ zeroMemory → record { answer = InvalidPlan; memory = m } ≡ powerOnAnswer p
-  unfolding powerOnAnswer checked
+  unfolding powerOnAnswer checked planTests answered passed ifPassed answerOf
   memory-refused a e = rw (a, e)
 
 module _ (s : List ℕ) {x : PlanRead} {n : ℕ} (e : x ≡ readAnswer s) (f : n ≡ readPeriod s) where

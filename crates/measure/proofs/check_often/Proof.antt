@@ -5,7 +5,7 @@ use Rattle.measure.proofs.check_often.Tie as tie
 use Rattle.measure.proofs.check_often.Reads as reads
 use Rattle.measure.proofs.check_often.Lts as lts
 use Rattle.answer.proofs.Answer.number.Reads as number-reads
-use Rattle.recovery.proofs.check.Reads as check-reads
+use Rattle.plan_period.proofs.check.Reads as check-reads
 
 abbrev Inv-loop : tie.InvT-loop
 Inv-loop times p₀ sum₀ k₀ p sum k = (k ≤ times) × (sum ≤ 1000)

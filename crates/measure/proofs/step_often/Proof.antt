@@ -4,7 +4,7 @@ use native.Mathlib.Omega.{arith}
 use Rattle.plan.specs.Sizes.{numbersOf}
 use Rattle.system.specs.Fault.{faultsSize}
 use Rattle.faults.specs.Code.{Small}
-use Rattle.faults.proofs.PartLaws.{bins-most, most-enough}
+use Rattle.faults.proofs.LayoutLaws.{bins-most, most-enough}
 use borrow.Author.Needs.{needs}
 use Rattle.measure.proofs.step_often.Statement.{statement}
 use Rattle.measure.proofs.step_often.Tie as tie

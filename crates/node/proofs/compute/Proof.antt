@@ -1,6 +1,6 @@
 -- `node::compute` meets its contract: an answer for each way out.
 use borrow.Author.Needs.{needs}
-use Rattle.recovery.proofs.AnswerLaws.{accepted-of-period, refused-of-period}
+use Rattle.plan_period.proofs.AnswerLaws.{accepted-of-period, refused-of-period}
 use Rattle.node.specs.Answers.{computeAnswer}
 use Rattle.node.proofs.CallLaws.{outcome, plan-refused, length-refused, call-done}
 use Rattle.node.proofs.compute.Statement.{statement}

@@ -2,7 +2,7 @@
 use mathlib.Core.Path.{sym, _∙_}
 use borrow.Author.Needs.{needs}
 use Rattle.plan.proofs.AcceptedLaws.{shape-of-accepted}
-use Rattle.recovery.proofs.AnswerLaws.{accepted-of-period, refused-of-period}
+use Rattle.plan_period.proofs.AnswerLaws.{accepted-of-period, refused-of-period}
 use Rattle.node.specs.Answers.{messagePlace}
 use Rattle.node.proofs.CallLaws.{plan-refused, length-refused, call-done}
 use Rattle.node.proofs.message.Statement.{statement}

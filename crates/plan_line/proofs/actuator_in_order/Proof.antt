@@ -1,5 +1,5 @@
 use borrow.Author.Tests.{eq-eqb, ne-eqb}
-use Rattle.text.specs.Refused.{actuatorInOrder}
+use Rattle.plan_grammar.specs.Refused.{actuatorInOrder}
 use borrow.Author.Needs.{needs}
 use Rattle.plan_line.proofs.actuator_in_order.Statement.{statement}
 use Rattle.plan_line.proofs.actuator_in_order.Tie as tie

@@ -1,4 +1,4 @@
-use Rattle.text.specs.Refused.{afterCells}
+use Rattle.plan_grammar.specs.Refused.{afterCells}
 use mathlib.Core.Path.{refl}
 use Rattle.plan_line.proofs.after_cells.Statement.{statement}
 use Rattle.plan_line.proofs.after_cells.Tie as tie

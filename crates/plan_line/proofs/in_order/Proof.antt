@@ -2,7 +2,7 @@
 use mathlib.Core.Path.{sym, _∙_}
 use borrow.Author.Tests.{eq-eqb, ne-eqb, lt-leb, le-leb}
 use borrow.Author.Needs.{needs}
-use Rattle.text.specs.Refused.{inOrder}
+use Rattle.plan_grammar.specs.Refused.{inOrder}
 use Rattle.plan_line.proofs.in_order.Statement.{statement}
 use Rattle.plan_line.proofs.in_order.Tie as tie
 

@@ -2,7 +2,7 @@
 use mathlib.Core.Path.{sym, _∙_}
 use borrow.Author.Tests.{eq-eqb, ne-eqb}
 use borrow.Author.Needs.{needs}
-use Rattle.text.specs.Refused.{inRange}
+use Rattle.plan_grammar.specs.Refused.{inRange}
 use Rattle.plan_line.proofs.in_range.Statement.{statement}
 use Rattle.plan_line.proofs.in_range.Tie as tie
 

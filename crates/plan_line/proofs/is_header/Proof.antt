@@ -1,4 +1,4 @@
-use Rattle.text.specs.Refused.{isHeader}
+use Rattle.plan_grammar.specs.Refused.{isHeader}
 use borrow.Author.Needs.{needs}
 use Rattle.plan_line.proofs.is_header.Statement.{statement}
 use Rattle.plan_line.proofs.is_header.Tie as tie

@@ -1,4 +1,4 @@
-use Rattle.text.specs.Refused.{isLast}
+use Rattle.plan_grammar.specs.Refused.{isLast}
 use borrow.Author.Needs.{needs}
 use Rattle.plan_line.proofs.is_last.Statement.{statement}
 use Rattle.plan_line.proofs.is_last.Tie as tie

@@ -1,5 +1,5 @@
 use mathlib.Core.Path.{refl}
-use Rattle.text.specs.Line.{isTask}
+use Rattle.plan_grammar.specs.Line.{isTask}
 use Rattle.plan_line.proofs.is_task.Statement.{statement}
 use Rattle.plan_line.proofs.is_task.Tie as tie
 use Rattle.plan_line.proofs.is_task.Reads as reads

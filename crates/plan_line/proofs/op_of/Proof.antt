@@ -1,7 +1,7 @@
 -- `plan_line::op_of` meets its contract: one return for each kind.
 use borrow.Author.Tests.{eq-eqb, ne-eqb}
 use borrow.Author.Needs.{needs}
-use Rattle.text.specs.Meant.{opOf}
+use Rattle.plan_grammar.specs.Meant.{opOf}
 use Rattle.plan_line.proofs.op_of.Statement.{statement}
 use Rattle.plan_line.proofs.op_of.Tie as tie
 

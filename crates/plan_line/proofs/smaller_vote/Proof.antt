@@ -1,4 +1,4 @@
-use Rattle.text.specs.Refused.{smallerVote}
+use Rattle.plan_grammar.specs.Refused.{smallerVote}
 use mathlib.Core.Path.{refl}
 use Rattle.plan_line.proofs.smaller_vote.Statement.{statement}
 use Rattle.plan_line.proofs.smaller_vote.Tie as tie

@@ -1,4 +1,4 @@
-use Rattle.text.specs.Refused.{taskInOrder}
+use Rattle.plan_grammar.specs.Refused.{taskInOrder}
 use borrow.Author.Needs.{needs}
 use Rattle.plan_line.proofs.task_in_order.Statement.{statement}
 use Rattle.plan_line.proofs.task_in_order.Tie as tie

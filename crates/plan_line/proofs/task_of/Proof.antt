@@ -1,4 +1,4 @@
-use Rattle.text.specs.Meant.{taskOf}
+use Rattle.plan_grammar.specs.Meant.{taskOf}
 use borrow.Author.Needs.{needs}
 use Rattle.plan_line.proofs.task_of.Statement.{statement}
 use Rattle.plan_line.proofs.task_of.Tie as tie

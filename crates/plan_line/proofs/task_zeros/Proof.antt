@@ -1,4 +1,4 @@
-use Rattle.text.specs.Refused.{taskZeros}
+use Rattle.plan_grammar.specs.Refused.{taskZeros}
 use mathlib.Core.Path.{refl}
 use Rattle.plan_line.proofs.task_zeros.Statement.{statement}
 use Rattle.plan_line.proofs.task_zeros.Tie as tie

@@ -1,4 +1,4 @@
-use Rattle.text.specs.Refused.{voteInOrder}
+use Rattle.plan_grammar.specs.Refused.{voteInOrder}
 use borrow.Author.Needs.{needs}
 use Rattle.plan_line.proofs.vote_in_order.Statement.{statement}
 use Rattle.plan_line.proofs.vote_in_order.Tie as tie

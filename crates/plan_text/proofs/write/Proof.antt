@@ -1,7 +1,7 @@
 -- `plan_text::write` meets its contract: a record that is not accepted, a buffer that is too short, or the text.
 use native.Mathlib.Omega.{arith}
 use borrow.Author.Needs.{needs}
-use Rattle.recovery.proofs.AnswerLaws.{accepted-of-period, refused-of-period}
+use Rattle.plan_period.proofs.AnswerLaws.{accepted-of-period, refused-of-period}
 use Rattle.plan_text.proofs.WriteLaws.{write-refused, write-short, write-done}
 use Rattle.plan_text.proofs.write.Statement.{statement}
 use Rattle.plan_text.proofs.write.Tie as tie

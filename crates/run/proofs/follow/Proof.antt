@@ -1,13 +1,16 @@
 -- `run::follow` ends: each block that is read whole brings the run nearer to its last line.
 use mathlib.Core.Path.{_≡_, refl, sym, ap, _∙_, subst}
-use mathlib.Core.Bool.{true}
+use mathlib.Core.Bool.{Bool, true, _&&_}
 use mathlib.Core.List.{List, _++_}
-use Prim.Native.Nat.{ℕ, _-_, _*_, _≤_}
+use Prim.Native.Nat.{ℕ, _-_, _*_, _≤_, _<_}
+use lib.Dec.{eqb}
 use native.Mathlib.Omega.{arith}
 use lib.ListN.{length, take, drop, length-replicate}
 use lib.Seq.{length-take-le, length-front, take-at}
 use borrow.Author.Needs.{needs}
-use borrow.Author.Tests.{not-false}
+use borrow.Author.Tests.{not-false, eqb-true}
+use Rattle.array.proofs.TestLaws.{and-left, and-right}
+use Rattle.answer.specs.Refusal.{numberOf}
 use Rattle.plan.specs.declared.Plan.{Plan}
 use Rattle.plan.specs.declared.Sizes.{Sizes}
 use Rattle.plan.specs.Known.{period}
@@ -17,19 +20,23 @@ use Rattle.plan.specs.Accepted.{accepted}
 use Rattle.plan.proofs.AcceptedLaws.{shape-of-accepted}
 use Rattle.system.specs.Fault.{faultsSize}
 use Rattle.faults.specs.Code.{Small, Held}
-use Rattle.faults.proofs.PartLaws.{small-of-shape, most-enough, held-zero}
-use Rattle.lines.specs.Listing.{mostLines}
+use Rattle.faults.proofs.LayoutLaws.{small-of-shape, most-enough, held-zero}
+use Rattle.lines.specs.Listing.{mostRunLines}
+use Rattle.lines.specs.declared.Run.{Run}
+use Rattle.lines.specs.Code.{linesAnswer}
+use Rattle.lines.specs.Blocks.{LaidBlock}
 use Rattle.lines.proofs.StepLaws.{front-length}
+use Rattle.lines.proofs.RunLaws.{lines-further, lines-in-time}
 use Rattle.run.proofs.follow.Statement.{statement}
 use Rattle.run.proofs.follow.Tie as tie
 
 abbrev Inv-loop : tie.InvT-loop
 Inv-loop file size bytes run₀ input₀ out₀ held₀ faults₀ run input out held faults =
-    (accepted (run .plan) ≡ true) × (run .period ≡ period (run .plan)) × (run .frame ≤ mostLines) × (run .plan ≡ run₀ .plan) × (length input ≡ 42112) × (length out ≡ 22656)
+    (accepted (run .plan) ≡ true) × (run .period ≡ period (run .plan)) × (run .frame ≤ mostRunLines) × (run .plan ≡ run₀ .plan) × (length input ≡ 42112) × (length out ≡ 22669)
     × (length held ≡ mostNodes) × (length faults ≡ 14896) × Held (sizesOf (run .plan)) held (take (bytes - 0) faults)
 
 abbrev μ-loop : tie.MeasureT-loop
-μ-loop file size bytes run₀ input₀ out₀ held₀ faults₀ run input out held faults = mostLines - run .frame
+μ-loop file size bytes run₀ input₀ out₀ held₀ faults₀ run input out held faults = mostRunLines - run .frame
 
 line-size-requires : tie.Need-line-size-requires Inv-loop μ-loop
 line-size-requires c κs = shape-of-accepted _ (c .pre .0) .sensors-le
@@ -45,7 +52,7 @@ size-requires c κs =
 loop-holds : tie.Need-loop-holds Inv-loop μ-loop
 loop-holds c =
     let z : ℕ = 0 in
-    (c .before .before .before .pre .0, c .before .before .before .pre .1, c .before .before .before .pre .2, refl, length-replicate 42112 z, length-replicate 22656 z, length-replicate mostNodes z, length-replicate 14896 z, held-zero (sizesOf (c .before .before .before .args .start .plan)) 14896 0 (c .size .result - 0))
+    (c .before .before .before .pre .0, c .before .before .before .pre .1, c .before .before .before .pre .2, refl, length-replicate 42112 z, length-replicate 22669 z, length-replicate mostNodes z, length-replicate 14896 z, held-zero (sizesOf (c .before .before .before .args .start .plan)) 14896 0 (c .size .result - 0))
 
 part-input-end : tie.Need-part-input-end Inv-loop μ-loop
 part-input-end c = omega (arith, c .before .before .before .line-size .ensures, shape-of-accepted (c .before .before .before .before .args .start .plan) (c .before .before .before .before .pre .0) .sensors-le, c .loop .inv .4)
@@ -71,16 +78,45 @@ block-requires c κs =
     let p = shape-of-accepted (l .run .plan) (l .inv .0) in
     let same : l .run .plan .sensors ≡ a .start .plan .sensors = ap (λ (q : Plan). q .sensors) (l .inv .3) in
     let n : length (take (128 * size .result - 0) (l .input)) ≡ 128 * size .result = front-length (l .input) refl (omega (arith, size .ensures, h .sensors-le, l .inv .4)) in
-    let m : length (take 22656 (l .out)) ≡ 22656 = length-take-le 22656 (l .out) (omega (arith, l .inv .5)) in
+    let m : length (take 22669 (l .out)) ≡ 22669 = length-take-le 22669 (l .out) (omega (arith, l .inv .5)) in
     let b = bytes-fit (a .start .plan) (c .before .before .before .before .before .before .before .before .pre .0) (c .before .before .before .before .before .before .numbers-of .ensures) (c .before .before .before .before .before .size .ensures) (l .inv .7) in
     let f : length (take (c .before .before .before .before .before .size .result - 0) (l .faults)) ≡ faultsSize (sizesOf (l .run .plan)) = front-length (l .faults) refl (b .1) ∙ b .0 ∙ ap (λ (q : Plan). faultsSize (sizesOf q)) (sym (l .inv .3)) in
-    (l .inv .0, l .inv .1, l .inv .2, omega (arith, n, size .ensures), omega (arith, n, size .ensures, same), l .inv .6, f, l .inv .8, omega (arith, m, p .actuators-le))
+    (l .inv .0, l .inv .1, l .inv .2, omega (arith, n, size .ensures, same), l .inv .6, f, l .inv .8, omega (arith, m, p .actuators-le))
 
 returns : tie.Need-returns Inv-loop μ-loop
 returns c = tt
 
+-- the run that a block leaves
+module _ (r : Run) (input out : List ℕ) (got count : ℕ) (left : Run) (h : LaidBlock r (take got input) out count left) where
+  left-plan : left .plan ≡ r .plan
+  unfolding linesAnswer
+  left-plan = ap (λ (x : Run). x .plan) (h .run-is)
+
+  left-period : left .period ≡ r .period
+  unfolding linesAnswer
+  left-period = ap (λ (x : Run). x .period) (h .run-is)
+
+  left-in-time : r .frame ≤ mostRunLines → left .frame ≤ mostRunLines
+  left-in-time f = rw (h .run-is) (lines-in-time r (take got input) f)
+
+  left-further : {more : Bool} → more ≡ (eqb (numberOf (linesAnswer r (take got input) .answer)) 0 && eqb got (length input)) → more ≡ true → 0 < length input → r .frame < left .frame
+  left-further m t f =
+      let b : (eqb (numberOf (linesAnswer r (take got input) .answer)) 0 && eqb got (length input)) ≡ true = sym m ∙ t in
+      let done : numberOf (linesAnswer r (take got input) .answer) ≡ 0 = eqb-true (numberOf (linesAnswer r (take got input) .answer)) 0 (and-left (eqb (numberOf (linesAnswer r (take got input) .answer)) 0) (eqb got (length input)) b) in
+      let whole : got ≡ length input = eqb-true got (length input) (and-right (eqb (numberOf (linesAnswer r (take got input) .answer)) 0) (eqb got (length input)) b) in
+      let some : 0 < length (take got input) = omega (arith, length-take-le got input (omega arith)) in
+      rw (h .run-is) (lines-further r (take got input) done some)
+
 loop-less : tie.Need-loop-less Inv-loop μ-loop
-loop-less c = let b = c .before .before .before .before .before .before .block in omega (arith, b .ensures .7, b .ensures .8 (not-false _ (c .before .if1 .left)))
+loop-less c =
+    let b = c .before .before .before .before .before .before .block in
+    let l = c .before .before .before .before .before .before .before .before .before .before .before .loop in
+    let a = c .before .before .before .before .before .before .before .before .before .before .before .before .before .before .before .args in
+    let h = shape-of-accepted (a .start .plan) (c .before .before .before .before .before .before .before .before .before .before .before .before .before .before .before .pre .0) in
+    let n : length (take (128 * c .before .before .before .before .before .before .before .before .before .before .before .before .before .before .line-size .result - 0) (l .input)) ≡ 128 * c .before .before .before .before .before .before .before .before .before .before .before .before .before .before .line-size .result = front-length (l .input) refl (omega (arith, c .before .before .before .before .before .before .before .before .before .before .before .before .before .before .line-size .ensures, h .sensors-le, l .inv .4)) in
+    let t : b .result .run .frame ≤ mostRunLines = left-in-time (l .run) (b .last .1 .1 .0) _ (b .result .got) _ _ (b .ensures .2) (l .inv .2) in
+    let f : l .run .frame < b .result .run .frame = left-further (l .run) (b .last .1 .1 .0) _ (b .result .got) _ _ (b .ensures .2) (b .ensures .3) (not-false _ (c .before .if1 .left)) (omega (arith, b .ensures .0, n, c .before .before .before .before .before .before .before .before .before .before .before .before .before .before .line-size .ensures)) in
+    omega (arith, t, f)
 
 -- a front that comes back as it was lent
 front-back : (l part rest : List ℕ) (k n : ℕ) → length part ≡ length (take k l) → k ≡ n → n ≤ length l → take k (part ++ rest) ≡ part
@@ -94,16 +130,17 @@ loop-again c =
     let fit = bytes-fit (c .before .before .before .before .before .before .before .before .before .before .before .before .before .before .before .args .start .plan) (c .before .before .before .before .before .before .before .before .before .before .before .before .before .before .before .pre .0) (c .before .before .before .before .before .before .before .before .before .before .before .before .before .numbers-of .ensures) (c .before .before .before .before .before .before .before .before .before .before .before .before .size .ensures) (l .inv .7) in
     let part : List ℕ = b .last .1 .1 .1 .1 .0 in
     let rest : List ℕ = drop (k - 0) (l .faults) in
-    let back : take (k - 0) (part ++ rest) ≡ part = front-back (l .faults) part rest (k - 0) k (b .ensures .2) (omega arith) (fit .1) in (
-      ap accepted (b .ensures .5) ∙ l .inv .0,
-      b .ensures .6 ∙ l .inv .1 ∙ ap period (sym (b .ensures .5)),
-      b .ensures .7,
-      b .ensures .5 ∙ l .inv .3,
+    let back : take (k - 0) (part ++ rest) ≡ part = front-back (l .faults) part rest (k - 0) k (b .ensures .5) (omega arith) (fit .1) in
+    let plan : b .result .run .plan ≡ l .run .plan = left-plan (l .run) (b .last .1 .1 .0) _ (b .result .got) _ _ (b .ensures .2) in (
+      ap accepted plan ∙ l .inv .0,
+      left-period (l .run) (b .last .1 .1 .0) _ (b .result .got) _ _ (b .ensures .2) ∙ l .inv .1 ∙ ap period (sym plan),
+      left-in-time (l .run) (b .last .1 .1 .0) _ (b .result .got) _ _ (b .ensures .2) (l .inv .2),
+      plan ∙ l .inv .3,
       length-front (l .input) (b .last .1 .1 .0) (128 * c .before .before .before .before .before .before .before .before .before .before .before .before .before .before .line-size .result - 0) (b .ensures .0) ∙ l .inv .4,
-      length-front (l .out) (b .last .1 .1 .1 .1 .1 .0) 22656 (b .ensures .4) ∙ l .inv .5,
-      b .ensures .1,
-      length-front (l .faults) (b .last .1 .1 .1 .1 .0) (k - 0) (b .ensures .2) ∙ l .inv .7,
-      rw (back, b .ensures .5) (b .ensures .3),
+      length-front (l .out) (b .last .1 .1 .1 .1 .1 .0) 22669 (b .ensures .7) ∙ l .inv .5,
+      b .ensures .4,
+      length-front (l .faults) (b .last .1 .1 .1 .1 .0) (k - 0) (b .ensures .5) ∙ l .inv .7,
+      rw (back, plan) (b .ensures .6),
     )
 
 pub follow-spec : {M : Type 1} → statement M

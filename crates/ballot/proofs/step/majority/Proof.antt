@@ -8,7 +8,7 @@ use native.Mathlib.Nat.{not-suc-le-zero}
 use lib.ListN.{getD}
 use borrow.Author.Count.{below-more}
 use borrow.Author.Needs.{needs}
-use Rattle.ballot.specs.Majority.{holders, valueOf}
+use Rattle.ballot.specs.Majority.{holders, votedValue}
 use Rattle.ballot.specs.Code.{packed}
 use Rattle.ballot.proofs.MajorityLaws.{majority-of-most}
 use Rattle.ballot.proofs.ScanLaws.{holders-none, holders-grows}
@@ -18,14 +18,14 @@ use Rattle.ballot.proofs.step.majority.Tie as tie
 
 abbrev Inv-loop : tie.InvT-loop
 Inv-loop values k n found₀ i x held₀ j₀ found held j =
-    (j ≤ k) × (held ≡ holders (packed values k) j x) × (held ≤ j) × (2 * held ≤ n) × (valueOf found ≡ none)
+    (j ≤ k) × (held ≡ holders (packed values k) j x) × (held ≤ j) × (2 * held ≤ n) × (votedValue found ≡ none)
 
 abbrev μ-loop : tie.MeasureT-loop
 μ-loop values k n found₀ i x held₀ j₀ found held j = k - j
 
 abbrev Inv-candidates : tie.InvT-candidates
 Inv-candidates values k n found₀ i₀ found i =
-    (i ≤ k) × (valueOf found ≡ none) × ((j : ℕ) → j < i → 2 * holders (packed values k) k (getD values j 0) ≤ n)
+    (i ≤ k) × (votedValue found ≡ none) × ((j : ℕ) → j < i → 2 * holders (packed values k) k (getD values j 0) ≤ n)
 
 abbrev μ-candidates : tie.MeasureT-candidates
 μ-candidates values k n found₀ i₀ found i = k - i

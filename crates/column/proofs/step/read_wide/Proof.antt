@@ -4,7 +4,7 @@ use mathlib.Core.Logic.{⊎-elim}
 use Prim.Native.Nat.{ℕ}
 use lib.Seq.{slice}
 use borrow.Author.Needs.{needs}
-use Rattle.column.specs.Column.{numberOf}
+use Rattle.column.specs.Column.{numberShown}
 use Rattle.column.proofs.ReadingLaws.{number-skip}
 use Rattle.column.proofs.step.read_wide.Statement.{statement}
 use Rattle.column.proofs.step.read_wide.Tie as tie
@@ -17,7 +17,7 @@ returns c =
     let s = a .line .now in
     ⊎-elim
     (λ h. c .read .ensures ∙ number-skip s (a .from) (a .to) (p .0) (p .1) (e .before .eight-blanks .ensures) (e .eight-blanks2 .ensures) (h .0 .taken) (h .1))
-    (λ h. c .read .ensures ∙ ap (λ (i : ℕ). numberOf (slice i (a .to) s)) (h .1))
+    (λ h. c .read .ensures ∙ ap (λ (i : ℕ). numberShown (slice i (a .to) s)) (h .1))
     (c .before .if1 .came)
 
 pub read-wide-spec : {M : Type 1} → statement M

@@ -7,7 +7,7 @@ use borrow.Author.Needs.{needs}
 use Rattle.array.specs.Index.{fill}
 use Rattle.array.proofs.PlacesLaws.{fill-none, fill-length}
 use Rattle.array.proofs.LoopLaws.{stored-next, stored-all}
-use Rattle.faults.proofs.PartLaws.{fill-all}
+use Rattle.faults.proofs.LayoutLaws.{fill-all}
 use Rattle.faults.proofs.step.fill_part.Statement.{statement}
 use Rattle.faults.proofs.step.fill_part.Tie as tie
 

@@ -11,7 +11,7 @@ use Rattle.array.proofs.PlacesLaws.{fill-none, fill-length}
 use Rattle.array.proofs.LoopLaws.{stored-all}
 use Rattle.plan.specs.Limits.{mostNodes}
 use Rattle.memory.proofs.StepLaws.{bin-ends}
-use Rattle.faults.proofs.PartLaws.{mostPart, times-most, part-most, HeldBy, held-same, filled-length, filled-held, heldNow, held-none, held-next, held-kept}
+use Rattle.faults.proofs.LayoutLaws.{mostPart, times-most, part-most, HeldBy, held-same, filled-length, filled-held, heldNow, held-none, held-next, held-kept}
 use Rattle.faults.proofs.step.hold.Statement.{statement}
 use Rattle.faults.proofs.step.hold.Tie as tie
 

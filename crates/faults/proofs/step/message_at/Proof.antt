@@ -3,7 +3,7 @@ use Prim.Native.Nat.{_≤_}
 use native.Mathlib.Omega.{arith}
 use borrow.Author.Needs.{needs}
 use Rattle.plan.specs.Limits.{mostNodes}
-use Rattle.faults.proofs.PartLaws.{at-most, bins-most}
+use Rattle.faults.proofs.LayoutLaws.{at-most, bins-most}
 use Rattle.faults.proofs.step.message_at.Statement.{statement}
 use Rattle.faults.proofs.step.message_at.Tie as tie
 

@@ -1,7 +1,7 @@
 -- `faults::step::part_at` meets its contract.
 use native.Mathlib.Omega.{arith}
 use borrow.Author.Needs.{needs}
-use Rattle.faults.proofs.PartLaws.{at-most}
+use Rattle.faults.proofs.LayoutLaws.{at-most}
 use Rattle.faults.proofs.step.part_at.Statement.{statement}
 use Rattle.faults.proofs.step.part_at.Tie as tie
 

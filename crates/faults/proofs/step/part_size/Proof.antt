@@ -1,7 +1,7 @@
 -- `faults::step::part_size` meets its contract: a part is small.
 use native.Mathlib.Omega.{arith}
 use borrow.Author.Needs.{needs}
-use Rattle.faults.proofs.PartLaws.{times-most}
+use Rattle.faults.proofs.LayoutLaws.{times-most}
 use Rattle.faults.proofs.step.part_size.Statement.{statement}
 use Rattle.faults.proofs.step.part_size.Tie as tie
 

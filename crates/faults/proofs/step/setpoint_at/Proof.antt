@@ -1,7 +1,7 @@
 -- `faults::step::setpoint_at` meets its contract.
 use native.Mathlib.Omega.{arith}
 use borrow.Author.Needs.{needs}
-use Rattle.faults.proofs.PartLaws.{at-most, bins-most}
+use Rattle.faults.proofs.LayoutLaws.{at-most, bins-most}
 use Rattle.faults.proofs.step.setpoint_at.Statement.{statement}
 use Rattle.faults.proofs.step.setpoint_at.Tie as tie
 

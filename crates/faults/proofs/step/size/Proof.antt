@@ -1,7 +1,7 @@
 -- `faults::step::size` meets its contract.
 use native.Mathlib.Omega.{arith}
 use borrow.Author.Needs.{needs}
-use Rattle.faults.proofs.PartLaws.{most-enough}
+use Rattle.faults.proofs.LayoutLaws.{most-enough}
 use Rattle.faults.proofs.step.size.Statement.{statement}
 use Rattle.faults.proofs.step.size.Tie as tie
 

@@ -9,7 +9,7 @@ use Rattle.plan.specs.Limits.{mostActuators}
 use Rattle.plan.proofs.AcceptedLaws.{shape-of-accepted}
 use Rattle.row_frame.proofs.FrameLaws.{sizes-small}
 use Rattle.lines.specs.Line.{printedSize}
-use Rattle.lines.specs.Listing.{singleNext}
+use Rattle.lines.specs.Listing.{singleAfter}
 use Rattle.lines.proofs.StepLaws.{front-length}
 use Rattle.lines.proofs.RowsLaws.{rows-next, planes-read, working-is, same-rows, line-is}
 use Rattle.lines.proofs.step.finish_line.Statement.{statement}
@@ -28,8 +28,8 @@ frame-requires c κs =
     let l : c .before .before .before .before .before .before .before .before .before .before .before .args .s .actuators ≤ mostActuators = sizes-small _ (q .0) _ (q .1) .0 .actuators in
     (q .0, q .1, search needs, q .2, q .3, q .4, q .5, front-length zeros refl l ∙ ap (λ (t : Sizes). t .actuators) (q .1))
 
-agreeing-requires : tie.Need-agreeing-requires
-agreeing-requires c κs =
+equal-requires : tie.Need-equal-requires
+equal-requires c κs =
     let h = sizes-small _ (c .before .before .before .before .before .before .before .before .before .before .before .before .before .before .before .before .before .before .before .pre .0) _ (c .before .before .before .before .before .before .before .before .before .before .before .before .before .before .before .before .before .before .before .pre .1) .0 in
     (search needs, search needs, h .nodes, h .cells)
 
@@ -39,7 +39,7 @@ write-frame-requires c κs =
     (sizes-small _ (q .0) _ (q .1) .0 .actuators, q .6 ∙ ap (λ (t : Sizes). printedSize (t .actuators)) (sym (q .1)))
 
 returns : tie.Need-returns
-unfolding singleNext
+unfolding singleAfter
 returns c =
     let a = c .before .before .before .before .before .before .before .before .before .before .before .before .before .before .before .before .before .before .before .before .before .before .before .before .before .args in
     let q = c .before .before .before .before .before .before .before .before .before .before .before .before .before .before .before .before .before .before .before .before .before .before .before .before .before .pre in
@@ -51,7 +51,7 @@ returns c =
       c .before .before .before .before .before .before .before .before .before .before .before .before .before .frame .ensures .1,
       line-is (a .plan) (a .s) (q .1) sys (a .sensors .now) (a .mask) x _ (a .frame) (c .before .before .write-frame .ensures)
           (c .before .before .before .before .before .before .before .before .before .before .before .before .before .before .before .before .before .before .working .ensures ∙ working-is (a .plan) (a .s) (q .1) sys (a .sensors .now) (a .mask) x (a .good .now) (rows .good-is))
-          (c .before .before .before .before .before .agreeing .ensures ∙ same-rows (a .plan) (a .s) (q .1) sys (a .sensors .now) (a .mask) x _ _ _ _ (h .nodes-high) g (c .before .before .before .before .before .before .before .before .before .before .before .before .before .frame .ensures .1))
+          (c .before .before .before .before .before .equal .ensures ∙ same-rows (a .plan) (a .s) (q .1) sys (a .sensors .now) (a .mask) x _ _ _ _ (h .nodes-high) g (c .before .before .before .before .before .before .before .before .before .before .before .before .before .frame .ensures .1))
           (planes-read (a .plan) (a .s) (q .1) sys (a .sensors .now) (a .mask) x (a .faults .now) hold (replicate mostActuators 0) _ refl (h .actuators-le) (f .1)),
     )
 
@@ -64,7 +64,7 @@ finish-line-spec =
     (λ c. search needs)
     part-planes-end
     frame-requires
-    agreeing-requires
+    equal-requires
     write-frame-requires
     (λ c. search needs)
     (λ c. search needs)

@@ -9,7 +9,7 @@ use borrow.Rule.Slice.PartMut.{putMid}
 use Rattle.plan.specs.Limits.{mostNodes}
 use Rattle.system.specs.Fault.{faultsSize}
 use Rattle.faults.specs.Code.{BadHold}
-use Rattle.faults.proofs.PartLaws.{most-enough, parts-all, held-bad, held-zero}
+use Rattle.faults.proofs.LayoutLaws.{most-enough, parts-all, held-bad, held-zero}
 use Rattle.row_frame.proofs.FrameLaws.{sizes-small}
 use Rattle.lines.proofs.StepLaws.{front-length}
 use Rattle.lines.proofs.RowsLaws.{none-parts, none-hold, lent-again, lent-room}

@@ -18,11 +18,11 @@ use Rattle.memory.specs.declared.Memory.{Memory}
 use Rattle.system.specs.declared.System.{System}
 use Rattle.system.specs.Fault.{faultsSize}
 use Rattle.faults.specs.Code.{Held, BadHold}
-use Rattle.faults.proofs.PartLaws.{parts-all, held-bad}
-use Rattle.rows.specs.Rows.{rowCount, wordCount, memoryIn, Rows}
+use Rattle.faults.proofs.LayoutLaws.{parts-all, held-bad}
+use Rattle.rows.specs.Code.{rowCount, wordCount, memoryIn, Rows}
 use Rattle.row_frame.proofs.FrameLaws.{sizes-small}
 use Rattle.lines.specs.Line.{runLineSize, printedSize}
-use Rattle.lines.specs.Listing.{mostLines, lineNumbers}
+use Rattle.lines.specs.Listing.{mostRunLines, lineNumbers}
 use Rattle.lines.proofs.StepLaws.{part-begins, part-ends, line-in-time, take-fits}
 use Rattle.lines.proofs.RunLaws.{ran-length, ran-ended, stopped-refused, stopped-ended, block-room, one-more, line-bytes}
 use Rattle.lines.proofs.RowsLaws.{sizes-are, numbers-told, numbers-refused, Going, going-none, going-next, going-refused, stopped-told, told-within, numbers-cut}
@@ -32,7 +32,7 @@ use Rattle.lines.proofs.step.lines.Tie as tie
 abbrev Inv-loop : tie.InvT-loop
 Inv-loop rest held₀ faults₀ out₀ plan period first sensors size width len s good₀ counters₀ cells₀ patterns₀ k₀ at₀ to₀ held faults out good counters cells patterns k at to =
     (at ≡ k * runLineSize (plan .sensors)) × (to ≡ k * printedSize (plan .actuators)) × (k * printedSize (plan .actuators) ≤ length out₀)
-    × (first + k ≤ mostLines) × (length out ≡ length out₀) × (length counters ≡ rowCount) × (length cells ≡ wordCount)
+    × (first + k ≤ mostRunLines) × (length out ≡ length out₀) × (length counters ≡ rowCount) × (length cells ≡ wordCount)
     × (length held ≡ mostNodes) × (length faults ≡ faultsSize s) × Held s held faults
     × ((sys : System) (single : Memory) → Rows sys counters₀ cells₀ good₀ → memoryIn counters₀ cells₀ 0 ≡ single → Going plan sys single first rest out₀ k counters cells good out)
 
@@ -295,7 +295,7 @@ loop-again c = let a = c .before .before .before .before .before .before .before
     let held : List ℕ = c .before .before .before .before .before .before .before .before .before .before .before .before .before .before .hold .last .1 .1 .1 .0 in
     let faults : List ℕ = c .before .before .before .before .before .before .before .before .before .before .before .before .before .before .hold .last .1 .1 .1 .1 .0 in
     let bad : BadHold s _ faults _ = held-bad s _ _ (l .held) held faults (c .before .before .before .before .before .before .before .before .before .before .before .before .before .before .hold .ensures .0) (i .7) (sizes-small p (q .0) s e .0 .nodes) (c .before .before .before .before .before .before .before .before .before .before .before .before .before .before .hold .ensures .2) in
-    let early : r .frame + l .k < mostLines = line-in-time p (r .frame + l .k) at _ o in
+    let early : r .frame + l .k < mostRunLines = line-in-time p (r .frame + l .k) at _ o in
     let more = one-more (l .k) (printedSize (p .actuators)) (i .1) (c .before .before .before .before .before .before .before .before .before .before .before .before .before .before .before .before .before .before .before .before .before .before .before .before .before .before .before .before .before .before .before .before .before .before .before .before .before .before .printed-size .ensures) in
     let to : List ℕ = c .before .before .before .before .finish-line .last .1 .1 .1 .1 .1 .1 .1 .1 .1 .0 in
     let go :

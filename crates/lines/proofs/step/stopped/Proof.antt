@@ -3,7 +3,7 @@ use mathlib.Core.Path.{ap, _∙_}
 use borrow.Author.Needs.{needs}
 use Rattle.memory.specs.declared.Memory.{Memory}
 use Rattle.system.specs.declared.System.{System}
-use Rattle.lines.specs.Step.{printedWith}
+use Rattle.lines.specs.Code.{printedWith}
 use Rattle.lines.proofs.step.stopped.Statement.{statement}
 use Rattle.lines.proofs.step.stopped.Tie as tie
 

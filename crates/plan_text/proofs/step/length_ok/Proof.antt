@@ -1,6 +1,6 @@
 -- `plan_text::step::length_ok` meets its contract: the tests are those of the definition.
 use mathlib.Core.Path.{refl}
-use Rattle.text.specs.Refused.{lengthOk}
+use Rattle.plan_grammar.specs.Refused.{lengthOk}
 use Rattle.plan_text.proofs.step.length_ok.Statement.{statement}
 use Rattle.plan_text.proofs.step.length_ok.Tie as tie
 

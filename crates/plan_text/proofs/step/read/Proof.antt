@@ -2,7 +2,7 @@
 use native.Mathlib.Omega.{arith}
 use lib.ListN.{length}
 use borrow.Author.Needs.{needs}
-use Rattle.text.proofs.LineLaws.{some-line}
+use Rattle.plan_grammar.proofs.LineLaws.{some-line}
 use Rattle.array.proofs.TestLaws.{refused-test, passed-test}
 use Rattle.plan_text.proofs.ReadLaws.{whole-line, no-line, answer-length, answer-first, answer-header}
 use Rattle.plan_text.proofs.step.read.Statement.{statement}

@@ -8,11 +8,11 @@ use native.Mathlib.Omega.{arith}
 use lib.ListN.{set}
 use lib.Seq.{set-out}
 use borrow.Author.Needs.{needs}
-use Rattle.text.specs.Line.{numbersAt}
-use Rattle.text.specs.Meant.{withLine}
-use Rattle.text.specs.Refused.{inOrder, inRange}
-use Rattle.plan_line.specs.Reader.{numbersIn}
-use Rattle.text.proofs.RefusedLaws.{cell-index, vote-index, actuator-index}
+use Rattle.plan_grammar.specs.Line.{numbersAt}
+use Rattle.plan_grammar.specs.Meant.{withLine}
+use Rattle.plan_grammar.specs.Refused.{inOrder, inRange}
+use Rattle.plan_line.specs.Code.{numbersIn}
+use Rattle.plan_grammar.proofs.RefusedLaws.{cell-index, vote-index, actuator-index}
 use Rattle.plan_text.proofs.StoreLaws.{later-kind, header-stored, task-stored, other-stored, counted}
 use Rattle.array.proofs.TestLaws.{passed-test}
 use Rattle.plan_text.proofs.ReadLaws.{whole-line, no-line, ReadTo, read-start, read-tasks, read-count, read-more, read-wellFormed, answer-malformed, answer-order, answer-range, answer-missing, answer-unrecoverable, answer-done}

@@ -1,7 +1,7 @@
 -- `plan_text::step::store_actuator` meets its contract: an actuator's cell is stored, and of another line nothing.
 use native.Mathlib.Omega.{arith}
 use borrow.Author.Tests.{eq-eqb, ne-eqb}
-use Rattle.text.specs.Meant.{actuatorsWith}
+use Rattle.plan_grammar.specs.Meant.{actuatorsWith}
 use Rattle.plan_text.proofs.step.store_actuator.Statement.{statement}
 use Rattle.plan_text.proofs.step.store_actuator.Tie as tie
 

@@ -1,7 +1,7 @@
 -- `plan_text::step::store_initial` meets its contract: a cell's value is stored, and of another line nothing.
 use native.Mathlib.Omega.{arith}
 use borrow.Author.Tests.{eq-eqb, ne-eqb}
-use Rattle.text.specs.Meant.{initialWith}
+use Rattle.plan_grammar.specs.Meant.{initialWith}
 use Rattle.plan_text.proofs.step.store_initial.Statement.{statement}
 use Rattle.plan_text.proofs.step.store_initial.Tie as tie
 

@@ -1,7 +1,7 @@
 -- `plan_text::step::store_vote` meets its contract: a vote is stored at its place in the table, and of another line nothing.
 use native.Mathlib.Omega.{arith}
 use borrow.Author.Tests.{eq-eqb, ne-eqb}
-use Rattle.text.specs.Meant.{votedWith}
+use Rattle.plan_grammar.specs.Meant.{votedWith}
 use Rattle.plan_text.proofs.step.store_vote.Statement.{statement}
 use Rattle.plan_text.proofs.step.store_vote.Tie as tie
 

@@ -1,6 +1,6 @@
 -- `plan_writer::step::op_line` meets its contract: one arm for each kind of task.
 use borrow.Author.Needs.{needs}
-use Rattle.text.specs.Written.{opLine}
+use Rattle.plan_grammar.specs.Written.{opLine}
 use Rattle.plan_writer.proofs.step.op_line.Statement.{statement}
 use Rattle.plan_writer.proofs.step.op_line.Tie as tie
 

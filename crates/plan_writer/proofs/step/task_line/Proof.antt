@@ -1,6 +1,6 @@
 -- `plan_writer::step::task_line` meets its contract.
 use borrow.Author.Needs.{needs}
-use Rattle.text.specs.Written.{taskLine}
+use Rattle.plan_grammar.specs.Written.{taskLine}
 use Rattle.plan_writer.proofs.step.task_line.Statement.{statement}
 use Rattle.plan_writer.proofs.step.task_line.Tie as tie
 

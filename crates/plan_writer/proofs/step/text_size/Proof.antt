@@ -2,7 +2,7 @@
 use native.Mathlib.Omega.{arith}
 use borrow.Author.Needs.{needs}
 use Rattle.plan.proofs.AcceptedLaws.{shape-of-accepted}
-use Rattle.text.proofs.WrittenLaws.{text-length}
+use Rattle.plan_grammar.proofs.WrittenLaws.{text-length}
 use Rattle.plan_writer.proofs.step.text_size.Statement.{statement}
 use Rattle.plan_writer.proofs.step.text_size.Tie as tie
 

@@ -1,6 +1,6 @@
 -- `plan_writer::step::vote_line` meets its contract: the code is the definition.
 use borrow.Author.Needs.{needs}
-use Rattle.text.specs.Written.{voteLine}
+use Rattle.plan_grammar.specs.Written.{voteLine}
 use Rattle.plan_writer.proofs.step.vote_line.Statement.{statement}
 use Rattle.plan_writer.proofs.step.vote_line.Tie as tie
 

@@ -9,10 +9,10 @@ use borrow.Author.Needs.{needs}
 use Rattle.array.specs.Index.{howMany}
 use Rattle.array.proofs.IndexLaws.{howMany-bound}
 use Rattle.plan.proofs.AcceptedLaws.{shape-of-accepted}
-use Rattle.text.specs.Line.{lineSize}
-use Rattle.text.specs.Written.{headerLine}
-use Rattle.text.proofs.WrittenLaws.{rows-length, voteRows-length, text-length}
-use Rattle.column.proofs.LaidLaws.{Laid, laid-length}
+use Rattle.plan_grammar.specs.Line.{lineSize}
+use Rattle.plan_grammar.specs.Written.{headerLine}
+use Rattle.plan_grammar.proofs.WrittenLaws.{rows-length, voteRows-length, text-length}
+use Rattle.column.proofs.BufferLaws.{Laid, laid-length}
 use Rattle.plan_writer.proofs.WriterLaws.{laid-lines, headerText, cellsText, tasksText, votesText, actuatorsText, header-laid, text-laid}
 use Rattle.plan_writer.proofs.step.write.Statement.{statement}
 use Rattle.plan_writer.proofs.step.write.Tie as tie

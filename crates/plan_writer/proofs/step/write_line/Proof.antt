@@ -5,9 +5,9 @@ use native.Mathlib.Omega.{arith}
 use lib.ListN.{length}
 use borrow.Author.Needs.{needs}
 use Rattle.column.specs.Row.{row}
-use Rattle.text.specs.Line.{widths}
-use Rattle.plan_line.specs.Reader.{numbersIn}
-use Rattle.column.proofs.LaidLaws.{laid-none, lay}
+use Rattle.plan_grammar.specs.Line.{widths}
+use Rattle.plan_line.specs.Code.{numbersIn}
+use Rattle.column.proofs.BufferLaws.{laid-none, lay}
 use Rattle.plan_writer.proofs.WriterLaws.{Filled, line-ended, row-columns}
 use Rattle.plan_writer.proofs.step.write_line.Statement.{statement}
 use Rattle.plan_writer.proofs.step.write_line.Tie as tie

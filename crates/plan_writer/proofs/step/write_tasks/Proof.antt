@@ -4,9 +4,9 @@ use Prim.Native.Nat.{ℕ, _-_, _*_, _≤_}
 use native.Mathlib.Omega.{arith}
 use borrow.Author.Needs.{needs}
 use Rattle.plan.specs.Known.{taskAt}
-use Rattle.text.specs.Line.{lineSize}
+use Rattle.plan_grammar.specs.Line.{lineSize}
 use Rattle.array.specs.Place.{placed}
-use Rattle.text.specs.Written.{taskLine}
+use Rattle.plan_grammar.specs.Written.{taskLine}
 use Rattle.plan_writer.proofs.WriterLaws.{rowsOf, lines-none, lines-size, lines-more}
 use Rattle.plan_writer.proofs.step.write_tasks.Statement.{statement}
 use Rattle.plan_writer.proofs.step.write_tasks.Tie as tie

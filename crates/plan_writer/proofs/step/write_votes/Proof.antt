@@ -8,7 +8,7 @@ use lib.ListN.{getD}
 use borrow.Author.Needs.{needs}
 use Rattle.array.specs.Index.{howMany}
 use Rattle.array.proofs.IndexLaws.{howMany-none, howMany-hit, howMany-miss, howMany-grows}
-use Rattle.text.specs.Line.{lineSize}
+use Rattle.plan_grammar.specs.Line.{lineSize}
 use Rattle.array.specs.Place.{placed}
 use Rattle.plan_writer.proofs.WriterLaws.{voteRows, votes-none, votes-size, votes-hit, votes-miss}
 use Rattle.plan_writer.proofs.step.write_votes.Statement.{statement}

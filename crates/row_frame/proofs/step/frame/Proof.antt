@@ -5,7 +5,7 @@ use mathlib.Core.Logic.{⊎-elim}
 use Prim.Native.Nat.{ℕ, _+_, _-_, _*_, _%_, _≤_, _<_}
 use native.Mathlib.Omega.{arith}
 use native.Mathlib.Nat.{mod-lt}
-use lib.ListN.{length, set, length-set}
+use lib.ListN.{length, getD, set, length-set}
 use borrow.Author.Needs.{needs}
 use Rattle.array.proofs.PlacedLaws.{part-length}
 use Rattle.plan.specs.Known.{taskAt}
@@ -14,7 +14,7 @@ use Rattle.plan.proofs.AcceptedLaws.{shape-of-accepted}
 use Rattle.task.specs.Task.{opValue, runTasks}
 use Rattle.task.proofs.SkipLaws.{Skips, skips-none, skips-again, skips-few, skips-earlier}
 use Rattle.memory.proofs.StepLaws.{tasks-none, tasks-hit, tasks-miss, tasks-others, tasks-later, tasks-end}
-use Rattle.rows.specs.Rows.{rowCount, wordCount, rowOf, Through}
+use Rattle.rows.specs.Code.{rowCount, wordCount, rowOf, Through}
 use Rattle.rows.proofs.RowLaws.{lent-length, lent-other, through-next, through-all, row-changed, computed-stored}
 use Rattle.row_frame.specs.Code.{ran}
 use Rattle.row_frame.proofs.FrameLaws.{sizes-small, place-fits, table-fits, through-first, ran-stored, framed}
@@ -60,8 +60,10 @@ loop2-holds : tie.Need-loop2-holds Inv-loop2 μ-loop2 Inv-loop μ-loop
 loop2-holds c =
     let i = c .before .before .before .loop .inv in
     let p = c .before .before .before .before .before .before .before .before .before .args .t1 in
-    let h = skips-again p (c .begin .ensures) (i .3) in
-    let few = skips-few (c .begin .ensures) (i .2) in
+    let l = c .before .before .before .loop in
+    let g = getD (l .counters) (l .r) 0 % p .frames in
+    let h = skips-again (l .last) g (c .begin .ensures) p (i .3) in
+    let few = skips-few (l .last) g (c .begin .ensures) (i .2) in
     let s = shape-of-accepted p (c .before .before .before .before .before .before .before .before .before .pre .0) in
     (few, s .tasks-le, few, h, tasks-none p _ _ _ ∙ tasks-others p _ _ _ 0 _ (omega arith) (λ n a. h n), (λ q ne. refl), i .5, s .frames-le, mod-lt _ (s .frames-pos), mod-lt _ (s .frames-pos), omega (arith, i .1, c .before .before .loop-test .taken), refl)
 

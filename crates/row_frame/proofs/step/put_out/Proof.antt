@@ -7,7 +7,7 @@ use lib.ListN.{length, length-set, replicate}
 use borrow.Author.Needs.{needs}
 use Rattle.plan.specs.Limits.{mostNodes}
 use Rattle.ballot.specs.Code.{Told}
-use Rattle.ballot.proofs.ToldLaws.{told-none, told-next}
+use Rattle.ballot.proofs.BinLaws.{told-none, told-next}
 use Rattle.row_frame.specs.Code.{putFrom}
 use Rattle.row_frame.proofs.PutLaws.{setpoint-in, put-bad, put-good}
 use Rattle.row_frame.proofs.step.put_out.Statement.{statement}

@@ -7,7 +7,7 @@ use lib.ListN.{length, length-set}
 use borrow.Author.Needs.{needs}
 use Rattle.array.proofs.PlacedLaws.{part-length}
 use Rattle.plan.specs.Limits.{mostNodes, mostCells}
-use Rattle.rows.specs.Rows.{rowCount, wordCount, Through}
+use Rattle.rows.specs.Code.{rowCount, wordCount, Through}
 use Rattle.rows.proofs.RowLaws.{through-next, through-kept, through-all, through-same}
 use Rattle.row_frame.specs.Code.{spoiled}
 use Rattle.row_frame.proofs.SpoilLaws.{memory-in, spoiled-first, spoiled-good, spoiled-long, spoiled-stored}

@@ -10,7 +10,7 @@ use lib.ListN.{length, getD}
 use borrow.Author.Needs.{needs}
 use Rattle.plan.specs.Limits.{mostNodes, mostCells}
 use Rattle.ballot.specs.Majority.{majority}
-use Rattle.rows.specs.Rows.{wordCount, wordPlace}
+use Rattle.rows.specs.Code.{wordCount, wordPlace}
 use Rattle.row_vote.specs.Code.{Put, takes, heardWord}
 use Rattle.row_vote.proofs.PutLaws.{column-apart, put-none, put-still, put-taken, put-left, put-all}
 use Rattle.row_vote.proofs.HeardLaws.{counted-old, takes-if}

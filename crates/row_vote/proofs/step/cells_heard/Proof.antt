@@ -7,7 +7,7 @@ use lib.ListN.{length, getD, replicate, length-set}
 use borrow.Author.Needs.{needs}
 use Rattle.plan.specs.Limits.{mostNodes}
 use Rattle.ballot.specs.Code.{Told}
-use Rattle.ballot.proofs.ToldLaws.{told-none, told-next}
+use Rattle.ballot.proofs.BinLaws.{told-none, told-next}
 use Rattle.system.proofs.FaultLaws.{message-room}
 use Rattle.row_vote.specs.Code.{heardWord}
 use Rattle.row_vote.proofs.HeardLaws.{heard-bad, heard-good}

@@ -9,7 +9,7 @@ use lib.ListN.{length, getD}
 use borrow.Author.Needs.{needs}
 use Rattle.plan.specs.Limits.{mostNodes}
 use Rattle.ballot.specs.Code.{Told}
-use Rattle.ballot.proofs.ToldLaws.{told-next, told-to}
+use Rattle.ballot.proofs.BinLaws.{told-next, told-to}
 use Rattle.row_vote.proofs.step.counter_words.Statement.{statement}
 use Rattle.row_vote.proofs.step.counter_words.Tie as tie
 

@@ -10,8 +10,8 @@ use lib.ListN.{length, getD}
 use borrow.Author.Needs.{needs}
 use Rattle.plan.specs.Limits.{mostNodes, mostFrames, mostCells}
 use Rattle.ballot.specs.Code.{Told}
-use Rattle.ballot.proofs.ToldLaws.{told-next, told-to}
-use Rattle.rows.specs.Rows.{wordCount, wordPlace}
+use Rattle.ballot.proofs.BinLaws.{told-next, told-to}
+use Rattle.rows.specs.Code.{wordCount, wordPlace}
 use Rattle.row_vote.specs.Code.{sentWord}
 use Rattle.row_vote.proofs.HeardLaws.{sent-read}
 use Rattle.row_vote.proofs.step.sent_words.Statement.{statement}

@@ -7,7 +7,7 @@ use native.Mathlib.Numerals.{add-one}
 use lib.ListN.{length}
 use borrow.Author.Needs.{needs}
 use Rattle.plan.specs.Limits.{mostNodes}
-use Rattle.rows.specs.Rows.{rowCount}
+use Rattle.rows.specs.Code.{rowCount}
 use Rattle.row_vote.specs.Code.{Put, isGood}
 use Rattle.row_vote.proofs.PutLaws.{suc-apart, put-none, put-taken, put-left, put-all}
 use Rattle.row_vote.proofs.HeardLaws.{good-if}

@@ -6,7 +6,7 @@ use native.Mathlib.Omega.{arith}
 use lib.ListN.{getD, getD-replicate}
 use borrow.Author.Needs.{needs}
 use Rattle.plan.specs.Limits.{mostNodes}
-use Rattle.ballot.specs.Majority.{valueOf}
+use Rattle.ballot.specs.Majority.{votedValue}
 use Rattle.row_vote.specs.Code.{votedAt}
 use Rattle.row_vote.proofs.DecideLaws.{cell-each, cell-none, cell-some}
 use Rattle.row_vote.proofs.step.vote_cell.Statement.{statement}
@@ -28,12 +28,12 @@ returns c =
 returns-2 : tie.Need-returns-2
 returns-2 c =
     let a = c .before .before .before .before .before .before .before .before .before .args in
-    cell-none (a .voted .now) (a .s) (a .mask) (a .faults .now) (λ j. getD (a .sent .now) j 0) (a .cells .now) (a .c) (c .before .before .before .before .before .sent-words .result) (c .before .before .before .before .before .sent-words .ensures) (c .before .before .before .decided .ensures) (ap valueOf (c .before .enum-told .given .1)) (c .if1 .left)
+    cell-none (a .voted .now) (a .s) (a .mask) (a .faults .now) (λ j. getD (a .sent .now) j 0) (a .cells .now) (a .c) (c .before .before .before .before .before .sent-words .result) (c .before .before .before .before .before .sent-words .ensures) (c .before .before .before .decided .ensures) (ap votedValue (c .before .enum-told .given .1)) (c .if1 .left)
 
 returns-3 : tie.Need-returns-3
 returns-3 c =
     let a = c .before .before .before .before .before .before .before .before .before .before .before .before .before .args in
-    cell-some (a .voted .now) (a .s) (a .mask) (a .faults .now) (λ j. getD (a .sent .now) j 0) (a .cells .now) (a .c) (c .before .before .before .before .before .before .before .before .before .sent-words .result) (c .before .before .before .before .before .before .before .before .before .sent-words .ensures) (c .before .before .before .before .before .before .before .decided .ensures) _ (ap valueOf (c .before .before .before .before .before .x .given .1)) (c .before .before .hand-to-all .ensures)
+    cell-some (a .voted .now) (a .s) (a .mask) (a .faults .now) (λ j. getD (a .sent .now) j 0) (a .cells .now) (a .c) (c .before .before .before .before .before .before .before .before .before .sent-words .result) (c .before .before .before .before .before .before .before .before .before .sent-words .ensures) (c .before .before .before .before .before .before .before .decided .ensures) _ (ap votedValue (c .before .before .before .before .before .x .given .1)) (c .before .before .hand-to-all .ensures)
 
 pub vote-cell-spec : {M : Type 1} → statement M
 vote-cell-spec =

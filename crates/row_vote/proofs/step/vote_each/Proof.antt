@@ -5,7 +5,7 @@ use native.Mathlib.Omega.{arith}
 use lib.ListN.{length, getD}
 use borrow.Author.Needs.{needs}
 use Rattle.plan.specs.Limits.{mostCells}
-use Rattle.rows.specs.Rows.{wordCount}
+use Rattle.rows.specs.Code.{wordCount}
 use Rattle.row_vote.proofs.DecideLaws.{cell-counted}
 use Rattle.row_vote.proofs.VoteLaws.{Voting, voting-none, voting-next}
 use Rattle.row_vote.proofs.step.vote_each.Statement.{statement}

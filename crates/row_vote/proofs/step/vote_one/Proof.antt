@@ -8,7 +8,7 @@ use lib.ListN.{length, getD}
 use borrow.Author.Needs.{needs}
 use Rattle.array.proofs.TestLaws.{and-false-right}
 use Rattle.plan.specs.Limits.{mostCells}
-use Rattle.rows.specs.Rows.{wordCount, wordPlace}
+use Rattle.rows.specs.Code.{wordCount, wordPlace}
 use Rattle.row_vote.specs.Code.{isGood, takes, votedAt, wordAfter}
 use Rattle.row_vote.proofs.PutLaws.{put-same, takes-one}
 use Rattle.row_vote.proofs.VoteLaws.{Voting, voting-none, voting-next, voting-skip}

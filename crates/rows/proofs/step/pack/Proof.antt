@@ -8,7 +8,7 @@ use Rattle.array.specs.Index.{fill}
 use Rattle.array.proofs.PlacesLaws.{fill-none}
 use Rattle.plan.specs.Limits.{mostNodes}
 use Rattle.array.proofs.LoopLaws.{stored-next, stored-all}
-use Rattle.rows.specs.Rows.{memoryIn}
+use Rattle.rows.specs.Code.{memoryIn}
 use Rattle.rows.proofs.RowLaws.{packed-is}
 use Rattle.rows.proofs.step.pack.Statement.{statement}
 use Rattle.rows.proofs.step.pack.Tie as tie

@@ -9,7 +9,7 @@ use borrow.Author.Needs.{needs}
 use Rattle.array.specs.Index.{allBelow}
 use Rattle.array.proofs.IndexLaws.{allBelow-none}
 use Rattle.plan.specs.Limits.{mostCells}
-use Rattle.rows.specs.Rows.{rowCount, rowOf, memoryIn, sameRow}
+use Rattle.rows.specs.Code.{rowCount, rowOf, memoryIn, sameRow}
 use Rattle.rows.proofs.RowLaws.{words-same, words-differ, same-counter, same-cell, same-all, same-more}
 use Rattle.rows.proofs.step.same_row.Statement.{statement}
 use Rattle.rows.proofs.step.same_row.Tie as tie

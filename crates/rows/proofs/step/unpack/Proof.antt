@@ -6,7 +6,7 @@ use lib.ListN.{length}
 use borrow.Author.Needs.{needs}
 use Rattle.plan.specs.Limits.{mostNodes}
 use Rattle.array.proofs.LoopLaws.{any-default, length-mapped}
-use Rattle.rows.specs.Rows.{rowCount, wordCount}
+use Rattle.rows.specs.Code.{rowCount, wordCount}
 use Rattle.rows.proofs.RowLaws.{Unpacked, unpacked-none, unpacked-next, rows-unpacked}
 use Rattle.rows.proofs.step.unpack.Statement.{statement}
 use Rattle.rows.proofs.step.unpack.Tie as tie

@@ -1,5 +1,5 @@
 use mathlib.Core.Path.{_∙_}
-use Rattle.recovery.proofs.AnswerLaws.{accepted-period, accepted-of-period, refused-of-period}
+use Rattle.plan_period.proofs.AnswerLaws.{accepted-period, accepted-of-period, refused-of-period}
 use Rattle.system.proofs.PowerOnLaws.{powerOn-refused, powerOn-done}
 use borrow.Author.Needs.{needs}
 use Rattle.system.proofs.System.power_on.Statement.{statement}

@@ -7,9 +7,8 @@ use native.Mathlib.Omega.{arith}
 use borrow.Author.Needs.{needs}
 use Rattle.array.specs.Index.{fill}
 use Rattle.array.proofs.PlacesLaws.{fill-none, fill-more}
-use Rattle.plan.proofs.AcceptedLaws.{shape-of-accepted}
+use Rattle.plan.proofs.AcceptedLaws.{shape-of-accepted, bound-small}
 use Rattle.plan.proofs.PeriodLaws.{period-bound}
-use Rattle.walk.proofs.WalkedLaws.{bound-small}
 use Rattle.memory.specs.declared.Memory.{Memory}
 use Rattle.system.specs.declared.System.{System}
 use Rattle.system.specs.System.{zeroSystem}
