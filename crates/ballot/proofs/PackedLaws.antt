@@ -14,7 +14,7 @@ use Rattle.array.specs.Index.{howMany}
 use Rattle.array.proofs.TestLaws.{split}
 use Rattle.ballot.specs.Majority.{holds, holders, majority}
 use Rattle.ballot.specs.Code.{packed}
-use Rattle.ballot.proofs.MajorityLaws.{no-some, holders-same, majority-of-few, majority-same, majority-by-holders}
+use Rattle.ballot.proofs.MajorityLaws.{no-some, holders-same, majority-of-few, majority-by-holders}
 use Rattle.ballot.proofs.ScanLaws.{holders-hit, holders-miss, holders-past}
 
 module _ (values : List ℕ) (k j : ℕ) where

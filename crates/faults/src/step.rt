@@ -1,7 +1,7 @@
 // Places in the fault bytes, by the numbers of a plan, and a buffer of fault bytes whose parts each hold one byte.
 ghost use mathlib.Core.Path.{_≡_};
-ghost use mathlib.Core.Bool.{true, cond};
-ghost use Prim.Native.Nat.{ℕ, _<_, _≤_};
+ghost use mathlib.Core.Bool.{cond};
+ghost use Prim.Native.Nat.{_<_, _≤_};
 ghost use lib.ListN.{length, getD, replicate};
 ghost use Rattle.array.specs.Index.{fill as filledWith};
 ghost use Rattle.array.specs.Bit.{bit};

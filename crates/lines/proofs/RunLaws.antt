@@ -22,7 +22,6 @@ use Rattle.memory.specs.declared.Memory.{Memory}
 use Rattle.system.specs.declared.System.{System}
 use Rattle.lines.specs.declared.step.Stepped.{Stepped}
 use Rattle.lines.specs.declared.Run.{Run}
-use Rattle.lines.specs.declared.Printed.{Printed}
 use Rattle.lines.specs.Line.{runLineSize, printedSize}
 use Rattle.lines.specs.Listing.{mostRunLines, leading, isSome, lineNumbers, frameLine, readLine, readNumbers, systemAt, singleAt, printedAt, frames, printed, lineLeft}
 use Rattle.lines.specs.Code.{blockLines, stepAnswer, stepPlace, printedWith, framesLeft, linesAnswer, linesPlace}
@@ -293,32 +292,3 @@ module _ (r : Run) (rest out : List ℕ) (l : length rest ≤ blockLines * runLi
       let n : length (printedTo (r .plan) (r .system) (r .single) (r .frame) rest (framesLeft r rest)) ≡ framesLeft r rest * printedSize (r .plan .actuators) = printed-length (r .plan) (r .system) (r .single) (r .frame) rest (framesLeft r rest) in
       length-append (printedTo (r .plan) (r .system) (r .single) (r .frame) rest (framesLeft r rest)) (drop (length (printedTo (r .plan) (r .system) (r .single) (r .frame) rest (framesLeft r rest))) out)
       ∙ rw (length-drop (length (printedTo (r .plan) (r .system) (r .single) (r .frame) rest (framesLeft r rest))) out) (omega (arith, n, lines-count))
-
--- all that a caller needs of them
-pub record Told (r : Run) (rest out to : List ℕ) (x : Printed) : Type 0 where
-  pub count-fits : x .count ≤ length to
-  pub same-length : length to ≡ length out
-  pub same-plan : x .run .plan ≡ r .plan
-  pub same-period : x .run .period ≡ r .period
-  pub in-time : x .run .frame ≤ mostRunLines
-  pub further : numberOf (x .answer) ≡ 0 → 0 < length rest → r .frame < x .run .frame
-
-pub lines-told :
-    (r : Run) (rest out to : List ℕ) (x : Printed) →
-    length rest ≤ blockLines * runLineSize (r .plan .sensors) →
-    blockLines * printedSize (r .plan .actuators) ≤ length out →
-    r .frame ≤ mostRunLines →
-    x ≡ linesAnswer r rest →
-    to ≡ linesPlace r rest out →
-    Told r rest out to x
-unfolding linesAnswer
-lines-told r rest out to x l m n e f =
-    let k : length to ≡ length out = ap length f ∙ lines-length r rest out l m in
-    record {
-      count-fits = rw (e, k) (lines-count r rest out l m);
-      same-length = k;
-      same-plan = ap (λ (y : Printed). y .run .plan) e;
-      same-period = ap (λ (y : Printed). y .run .period) e;
-      in-time = rw e (lines-in-time r rest n);
-      further = rw e (lines-further r rest);
-    }

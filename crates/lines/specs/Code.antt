@@ -1,4 +1,4 @@
--- The code's own: what its enums and structs say, and what its steps give. No public contract cites these.
+-- The code's own: what its enums and structs say, and what its steps give. No definition of document 01 cites these but those of Blocks.antt, which follow the program.
 use mathlib.Core.Bool.{Bool, true, false, cond}
 use mathlib.Core.List.{List, _∷_, _++_}
 use mathlib.Core.Option.{Option, none, some}

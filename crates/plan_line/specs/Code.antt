@@ -1,4 +1,4 @@
--- The code's own: what a line that was read says, as the numbers of a line. No public contract cites these.
+-- The code's own: what a line that was read says, as the numbers of a line. No definition of document 01 cites these.
 use mathlib.Core.List.{List, [], _∷_}
 use mathlib.Core.Option.{Option, none, some}
 use Prim.Native.Nat.{ℕ}

@@ -1,5 +1,5 @@
--- The code's way to the recovery period (src/step.rt): its own state and what each of its steps does. No public contract cites these;
--- the laws of proofs/WalkLaws.antt join them to `known` and `period`.
+-- The code's way to the recovery period (src/step.rt): its own state and what each of its steps does. No definition of document 01 cites these;
+-- the laws of proofs/WalkedLaws.antt join them to `known` and `period`.
 use mathlib.Core.Path.{_≡_}
 use mathlib.Core.Bool.{Bool, true, false, cond, _&&_}
 use mathlib.Core.List.{List, [], _∷_}

@@ -3,13 +3,13 @@ use mathlib.Core.Path.{_≡_, refl, sym, ap, _∙_, subst}
 use mathlib.Core.Bool.{Bool, true, false, cond}
 use mathlib.Core.List.{List}
 use mathlib.Core.Option.{Option, some, Option·getD}
-use Prim.Native.Nat.{ℕ, zero, suc, _+_, _*_, _^_, _≤_, _<_}
+use Prim.Native.Nat.{ℕ, suc, _+_, _^_, _≤_, _<_}
 use native.Mathlib.Omega.{arith}
 use lib.Dec.{eqb, ltb}
 use lib.ListN.{length, getD}
 use lib.Seq.{ext-getD}
 use borrow.Author.Tests.{eqb-true, eqb-false, ltb-true, ltb-false, lt-ltb, le-ltb}
-use Rattle.array.specs.Index.{fill, joined}
+use Rattle.array.specs.Index.{fill}
 use Rattle.array.specs.Bit.{bit}
 use Rattle.array.specs.Word.{be}
 use Rattle.array.proofs.TestLaws.{split}
@@ -22,25 +22,24 @@ use Rattle.plan.specs.Accepted.{accepted}
 use Rattle.plan.specs.Sizes.{numbersOf, sizesOf}
 use Rattle.plan.proofs.AcceptedLaws.{Shape, shape-of-accepted}
 use Rattle.plan_period.proofs.AnswerLaws.{period-small}
-use Rattle.ballot.specs.Majority.{majority}
 use Rattle.ballot.specs.Plane.{plane}
 use Rattle.ballot.proofs.MajorityLaws.{majority-same}
 use Rattle.ballot.proofs.PlaneLaws.{plane-same}
 use Rattle.memory.specs.declared.Memory.{Memory}
-use Rattle.memory.specs.Size.{counterSize, patternSize, cellAt, binSize}
+use Rattle.memory.specs.Size.{patternSize, cellAt, binSize}
 use Rattle.memory.specs.Node.{zeroMemory, computed, messageOf, binOf, before, sentCell, counterFrom, cellFrom, counterIn, cellIn, votedCounter, votedCell, voted, setpoint}
 use Rattle.memory.proofs.MessageLaws.{bin-length, counterFrom-message, cellFrom-message, counterFrom-part, cellFrom-part, counterIn-bin, cellIn-bin}
 use Rattle.memory.proofs.NodeLaws.{computed-small, computed-length, computed-past}
 use Rattle.system.specs.declared.System.{System}
-use Rattle.system.specs.Fault.{faultAt, faultMessageAt, faultMemory, faultMessage, faultSetpoint}
+use Rattle.system.specs.Fault.{faultAt, faultMessageAt, faultMemory, faultMessage}
 use Rattle.system.specs.Counts.{goodAfter}
 use Rattle.system.specs.Frame.{memoryOf, computedBy, heard, mailboxOf, memoryAfter, putOut, systemAfter, placeAfter}
 use Rattle.system.proofs.FaultLaws.{faultMessage-length}
 use Rattle.faults.specs.Code.{Small}
 use Rattle.faults.proofs.LayoutLaws.{small-of-shape}
-use Rattle.rows.specs.Code.{wordCount, wordPlace, rowOf, memoryIn, Rows, Stored, Through}
-use Rattle.rows.proofs.RowLaws.{row-at, row-length, memory-eq}
-use Rattle.row_vote.specs.Code.{frameBefore, votedAt, sentWord, votedBy, heardCounter, heardWord, sentFrame, votedRow}
+use Rattle.rows.specs.Code.{wordPlace, memoryIn, Rows, Stored, Through}
+use Rattle.rows.proofs.RowLaws.{row-at, memory-eq}
+use Rattle.row_vote.specs.Code.{sentWord, votedBy, heardCounter, heardWord, sentFrame, votedRow}
 use Rattle.row_frame.specs.Code.{ran, spoiled, closedRow, putFrom}
 
 -- ---- the numbers of an accepted plan

@@ -7,7 +7,7 @@ ghost use lib.Dec.{eqb};
 ghost use lib.ListN.{length, getD};
 ghost use Rattle.array.specs.Index.{fill as filledWith};
 ghost use Rattle.array.specs.Word.{be};
-ghost use Rattle.plan.specs.Limits.{mostNodes, mostFrames, mostCells, mostActuators};
+ghost use Rattle.plan.specs.Limits.{mostFrames, mostCells};
 ghost use Rattle.plan.specs.Accepted.{accepted};
 ghost use Rattle.plan.specs.Sizes.{sizesOf};
 ghost use Rattle.ballot.specs.Plane.{plane as planeOf};

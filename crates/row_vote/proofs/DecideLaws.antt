@@ -1,13 +1,11 @@
 -- Laws of what is decided once, for the counter and for a cell: each way through the code leaves what each good node would have counted.
 use mathlib.Core.Path.{_≡_, refl, sym, ap, _∙_}
-use mathlib.Core.Bool.{Bool, true, false, cond, _&&_}
+use mathlib.Core.Bool.{Bool, true}
 use mathlib.Core.List.{List}
 use mathlib.Core.Option.{Option, none, some, Option·getD}
 use Prim.Native.Nat.{ℕ, suc, _≤_, _<_}
-use native.Mathlib.Omega.{arith}
 use lib.ListN.{getD}
-use Rattle.array.proofs.TestLaws.{and-left, and-right, split, clash}
-use Rattle.array.specs.Bit.{bit}
+use Rattle.array.proofs.TestLaws.{split}
 use Rattle.plan.specs.declared.Sizes.{Sizes}
 use Rattle.plan.specs.Limits.{mostFrames}
 use Rattle.ballot.specs.Majority.{majority, orOwn}

@@ -1,5 +1,5 @@
 -- Laws of values stored at places, one after another: nothing yet, one more, all.
-use mathlib.Core.Path.{_≡_, refl, sym, ap, _∙_}
+use mathlib.Core.Path.{_≡_, refl, sym, _∙_}
 use mathlib.Core.Bool.{Bool, true, false}
 use mathlib.Core.List.{List}
 use Prim.Native.Nat.{ℕ, suc, _+_, _<_}
@@ -10,7 +10,6 @@ use lib.ListN.{length, getD, set, length-set}
 use lib.Seq.{getD-set-same, getD-set-other}
 use borrow.Author.Tests.{eqb-true, eqb-false}
 use Rattle.array.proofs.TestLaws.{split, clash}
-use Rattle.plan.specs.Limits.{mostCells}
 use Rattle.rows.specs.Code.{wordPlace}
 use Rattle.row_vote.specs.Code.{Put, votedAt, isGood, takes}
 

@@ -1,9 +1,9 @@
 -- Laws of the vote on rows: column by column, and that the columns and the counters give each row's vote.
 use mathlib.Core.Path.{_≡_, refl, sym, ap, _∙_}
-use mathlib.Core.Bool.{Bool, true, false, not, cond, _&&_}
+use mathlib.Core.Bool.{Bool, true, false, cond}
 use mathlib.Core.List.{List}
 use mathlib.Core.Option.{Option, none, some, Option·getD}
-use Prim.Native.Nat.{ℕ, zero, suc, _+_, _*_, _≤_, _<_}
+use Prim.Native.Nat.{ℕ, zero, suc, _+_, _≤_, _<_}
 use native.Mathlib.Omega.{arith}
 use lib.Dec.{eqb, ltb}
 use lib.ListN.{length, getD}
@@ -11,13 +11,13 @@ use lib.Seq.{ext-getD}
 use borrow.Author.Tests.{eqb-true, eqb-false, ltb-true, ltb-false, lt-ltb, le-ltb}
 use Rattle.array.specs.Index.{fill}
 use Rattle.array.specs.Bit.{bit}
-use Rattle.array.proofs.TestLaws.{split, clash, and-left, and-right, and-both, and-false-right}
+use Rattle.array.proofs.TestLaws.{split, clash, and-false-right}
 use Rattle.array.proofs.PlacesLaws.{fill-length, fill-in, fill-out}
 use Rattle.plan.specs.declared.Sizes.{Sizes}
 use Rattle.plan.specs.Limits.{mostNodes, mostFrames, mostCells}
-use Rattle.ballot.specs.Majority.{majority, orOwn}
+use Rattle.ballot.specs.Majority.{majority}
 use Rattle.memory.specs.declared.Memory.{Memory}
-use Rattle.memory.specs.Node.{counterFrom, cellFrom}
+use Rattle.memory.specs.Node.{cellFrom}
 use Rattle.system.specs.Fault.{faultMessageAt}
 use Rattle.rows.specs.Code.{wordCount, wordPlace, rowOf, memoryIn, Through}
 use Rattle.rows.proofs.RowLaws.{row-at, row-length, row-same, memory-eq}

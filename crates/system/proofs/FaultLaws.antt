@@ -9,7 +9,7 @@ use lib.ListN.{length, getD}
 use Rattle.array.proofs.PlacesLaws.{fill-length, fill-out, from-length}
 use Rattle.plan.specs.declared.Sizes.{Sizes}
 use Rattle.memory.specs.declared.Memory.{Memory}
-use Rattle.memory.specs.Size.{patternSize, cellAt, binBytes}
+use Rattle.memory.specs.Size.{binBytes}
 use Rattle.memory.proofs.StepLaws.{bin-ends}
 use Rattle.system.specs.Fault.{setpointSize, faultSize, faultAt, faultMessageAt, faultSetpointAt, faultMemory, faultMessage}
 

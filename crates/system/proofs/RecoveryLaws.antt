@@ -1,5 +1,6 @@
 -- Two plans with the same recovery: they differ in the constants of Winds at most, and in initial values and actuators.
 -- Recovery is the same for both: known cells, recovery period.
+-- These, `node-after-same`, `mostGood-same` and `state-same` are kept for request 2026-09; nothing else uses them.
 use mathlib.Core.Path.{_≡_, refl, sym, ap, _∙_}
 use mathlib.Core.Bool.{Bool}
 use mathlib.Core.List.{List}

@@ -1,10 +1,5 @@
 -- `frame::lengths_ok` meets its contract.
-use mathlib.Core.Path.{_≡_, ap, _∙_}
 use borrow.Author.Needs.{needs}
-use Prim.Native.Nat.{ℕ}
-use Rattle.plan.specs.declared.Sizes.{Sizes}
-use Rattle.plan.proofs.AcceptedLaws.{shape-of-accepted}
-use Rattle.system.specs.Fault.{faultsSize}
 use Rattle.system.specs.Frame.{lengthsOk}
 use Rattle.frame.proofs.CallLaws.{small-numbers}
 use Rattle.frame.proofs.lengths_ok.Statement.{statement}

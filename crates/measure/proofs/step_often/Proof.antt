@@ -1,5 +1,5 @@
 -- `measure::step_often` is safe: the parts lent lie in the buffers.
-use mathlib.Core.Path.{_≡_, sym, ap, _∙_, subst}
+use mathlib.Core.Path.{sym, ap, _∙_, subst}
 use native.Mathlib.Omega.{arith}
 use Rattle.plan.specs.Sizes.{numbersOf}
 use Rattle.system.specs.Fault.{faultsSize}

@@ -1,17 +1,15 @@
 -- `row_vote::step::sent_words` meets its contract: the first j words are found.
-use mathlib.Core.Path.{_≡_, sym, ap, _∙_}
-use mathlib.Core.Bool.{Bool, cond}
-use mathlib.Core.Option.{Option, some}
-use Prim.Native.Nat.{ℕ, suc, _-_, _≤_, _<_}
+use mathlib.Core.Path.{_≡_, ap}
+use mathlib.Core.Option.{some}
+use Prim.Native.Nat.{_-_, _≤_, _<_}
 use native.Mathlib.Omega.{arith}
 use native.Mathlib.Nat.{not-suc-le-zero}
-use native.Mathlib.Numerals.{add-one}
 use lib.ListN.{length, getD}
 use borrow.Author.Needs.{needs}
-use Rattle.plan.specs.Limits.{mostNodes, mostFrames, mostCells}
+use Rattle.plan.specs.Limits.{mostNodes, mostCells}
 use Rattle.ballot.specs.Code.{Told}
 use Rattle.ballot.proofs.BinLaws.{told-next, told-to}
-use Rattle.rows.specs.Code.{wordCount, wordPlace}
+use Rattle.rows.specs.Code.{wordCount}
 use Rattle.row_vote.specs.Code.{sentWord}
 use Rattle.row_vote.proofs.HeardLaws.{sent-read}
 use Rattle.row_vote.proofs.step.sent_words.Statement.{statement}

@@ -1,7 +1,5 @@
 -- `row_vote::step::vote` meets its contract: the good nodes vote in one frame, or each in its own.
-use mathlib.Core.Path.{_≡_, ap, _∙_}
-use Prim.Native.Nat.{ℕ}
-use native.Mathlib.Omega.{arith}
+use mathlib.Core.Path.{ap, _∙_}
 use lib.ListN.{getD}
 use borrow.Author.Needs.{needs}
 use Rattle.row_vote.specs.Code.{frameBefore}

@@ -1,6 +1,5 @@
 -- `row_vote::step::vote_cell` meets its contract: one way out for each case of what is decided.
-use mathlib.Core.Path.{_≡_, sym, ap, _∙_}
-use mathlib.Core.Bool.{Bool, true, false}
+use mathlib.Core.Path.{ap, _∙_}
 use Prim.Native.Nat.{ℕ}
 use native.Mathlib.Omega.{arith}
 use lib.ListN.{getD, getD-replicate}

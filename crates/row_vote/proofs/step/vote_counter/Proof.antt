@@ -1,6 +1,5 @@
 -- `row_vote::step::vote_counter` meets its contract: one way out for each case of what is decided.
 use mathlib.Core.Path.{refl, ap}
-use native.Mathlib.Omega.{arith}
 use borrow.Author.Needs.{needs}
 use Rattle.ballot.specs.Majority.{votedValue}
 use Rattle.row_vote.proofs.DecideLaws.{counter-each, counter-none, counter-below, counter-above}

@@ -1,5 +1,4 @@
 -- `task::step::begin` meets its contract: one way out for each case.
-use mathlib.Core.Path.{sym}
 use borrow.Author.Tests.{eq-eqb, ne-eqb}
 use Rattle.task.proofs.step.begin.Statement.{statement}
 use Rattle.task.proofs.step.begin.Tie as tie
