@@ -1,6 +1,7 @@
 // Plan texts with the refusal that document 01 gives each, worked out by hand: number, line, text, why.
 // Written with `rustc -O cases.rs && ./cases DIR`, it makes DIR/data/texts and DIR/stdout of the program crates/plan_text_cases.
 // A text in data/texts stands after its length in eight digits and a line feed.
+// The program also writes each accepted plan back: 0 and 0 says that the bytes were those of the text.
 
 use std::fs;
 
