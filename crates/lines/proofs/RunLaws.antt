@@ -15,17 +15,18 @@ use borrow.Rule.Slice.PartMut.{putMid}
 use Rattle.array.specs.Index.{joined}
 use Rattle.array.proofs.TestLaws.{split, clash, and-left, and-right, and-false-left, and-false-right}
 use Rattle.array.proofs.PlacesLaws.{joined-more}
+use Rattle.answer.specs.declared.Answer.{Answer}
 use Rattle.answer.specs.declared.Answer.the-variants.{Done, RunLine}
 use Rattle.answer.specs.Refusal.{numberOf}
 use Rattle.plan.specs.declared.Plan.{Plan}
 use Rattle.memory.specs.declared.Memory.{Memory}
 use Rattle.system.specs.declared.System.{System}
-use Rattle.lines.specs.declared.step.Stepped.{Stepped}
+use Rattle.lines.specs.declared.Printed.{Printed}
 use Rattle.lines.specs.declared.Run.{Run}
 use Rattle.lines.specs.Line.{runLineSize, printedSize}
 use Rattle.lines.specs.Listing.{mostRunLines, leading, isSome, lineNumbers, frameLine, readLine, readNumbers, systemAt, singleAt, printedAt, frames, printed, lineLeft}
-use Rattle.lines.specs.Code.{blockLines, stepAnswer, stepPlace, printedWith, framesLeft, linesAnswer, linesPlace}
-use Rattle.lines.proofs.StepLaws.{part-taken, take-fits, numbers-size, nothing-read, line-early, line-in-time, taken-some}
+use Rattle.lines.specs.Code.{blockLines, printedWith, framesLeft, linesAnswer, linesPlace}
+use Rattle.lines.proofs.StepLaws.{part-taken, take-fits, numbers-size, nothing-read, line-early, line-in-time}
 use Rattle.lines.proofs.WritingLaws.{frame-length}
 
 -- ---- how many lines stand before the first that fails
@@ -77,22 +78,17 @@ module _ (p : Plan) (sys : System) (single : Memory) (first : ℕ) (rest : List 
       length-append (printedTo k) (printedAt p sys single first rest k)
       ∙ rw (printed-length k, frame-length p (systemAt p sys single first rest k) (singleAt p sys single first rest k) (first + k) (readNumbers p sys single first rest k), suc-mul k width)
 
-  -- the record, the single controller and the buffer after k lines, all of them good
-  pub record Ran (out₀ : List ℕ) (k : ℕ) (after : System) (memory : Memory) (out : List ℕ) : Type 0 where
+  -- the buffer after k lines, all of them good
+  pub record Ran (out₀ : List ℕ) (k : ℕ) (out : List ℕ) : Type 0 where
     pub few : first + k ≤ mostRunLines
     pub good : (j : ℕ) → j < k → isSome (readLine p sys single first rest j) ≡ true
-    pub system-is : after ≡ systemAt p sys single first rest k
-    pub single-is : memory ≡ singleAt p sys single first rest k
     pub out-is : out ≡ printedTo k ++ drop (k * width) out₀
 
-  pub ran-none : (out₀ : List ℕ) → first ≤ mostRunLines → Ran out₀ 0 sys single out₀
-  unfolding systemAt singleAt joined
-  ran-none out₀ l = record { few = omega arith; good = λ j m. absurd (omega arith); system-is = refl; single-is = refl; out-is = ap (λ (n : ℕ). drop n out₀) (sym (zero-mul width)) }
+  pub ran-none : (out₀ : List ℕ) → first ≤ mostRunLines → Ran out₀ 0 out₀
+  unfolding joined
+  ran-none out₀ l = record { few = omega arith; good = λ j m. absurd (omega arith); out-is = ap (λ (n : ℕ). drop n out₀) (sym (zero-mul width)) }
 
-  module _ {out₀ : List ℕ} {k : ℕ} {after : System} {memory : Memory} {out : List ℕ} (h : Ran out₀ k after memory out) where
-    pub ran-length : k * width ≤ length out₀ → length out ≡ length out₀
-    ran-length l = ap length (h .out-is) ∙ length-append (printedTo k) (drop (k * width) out₀) ∙ rw (printed-length k, length-drop (k * width) out₀) (omega arith)
-
+  module _ {out₀ : List ℕ} {k : ℕ} {out : List ℕ} (h : Ran out₀ k out) where
     take-printed : take (k * width) out ≡ printedTo k
     take-printed = ap (take (k * width)) (h .out-is) ∙ take-at (printedTo k) (drop (k * width) out₀) (k * width) (printed-length k)
 
@@ -103,47 +99,38 @@ module _ (p : Plan) (sys : System) (single : Memory) (first : ℕ) (rest : List 
     unfolding readLine
     line-is {l} e = sym (line-early p (first + k) (lineBytes k) (line-in-time p (first + k) (lineBytes k) l e)) ∙ e
 
-    -- one line more, with the numbers l
+    pub numbers-are : {l : List ℕ} → lineNumbers p (first + k) (lineBytes k) ≡ some l → l ≡ readNumbers p sys single first rest k
+    unfolding readNumbers
+    numbers-are e = sym (ap (λ (x : Option (List ℕ)). Option·getD x []) (line-is e))
+
     more-with :
-        (s : Stepped) (line to l : List ℕ) →
-        line ≡ lineBytes k →
-        s ≡ stepAnswer p after memory (lineNumbers p (first + k) line) →
-        to ≡ stepPlace p after memory (first + k) (lineNumbers p (first + k) line) (take width (drop (k * width) out)) →
-        lineNumbers p (first + k) line ≡ some l →
-        Ran out₀ (k + 1) (s .system) (s .single) (putMid (k * width) width out to)
-    unfolding stepAnswer stepPlace systemAt singleAt readNumbers printedAt
-    more-with s line to l e f g o =
-        let u : lineNumbers p (first + k) (lineBytes k) ≡ some l = ap (lineNumbers p (first + k)) (sym e) ∙ o in
-        let v : readLine p sys single first rest k ≡ some l = line-is u in
-        let n : l ≡ readNumbers p sys single first rest k = sym (ap (λ (x : Option (List ℕ)). Option·getD x []) v) in
-        let a : s ≡ stepAnswer p after memory (some l) = f ∙ rw o in
-        let b : to ≡ frameLine p after memory (first + k) l = g ∙ rw o in
-        let c : to ≡ printedAt p sys single first rest k = b ∙ rw (h .system-is, h .single-is, n) in
+        (to l : List ℕ) →
+        lineNumbers p (first + k) (lineBytes k) ≡ some l →
+        to ≡ frameLine p (systemAt p sys single first rest k) (singleAt p sys single first rest k) (first + k) l →
+        Ran out₀ (k + 1) (putMid (k * width) width out to)
+    unfolding printedAt
+    more-with to l o g =
+        let v : readLine p sys single first rest k ≡ some l = line-is o in
+        let c : to ≡ printedAt p sys single first rest k = g ∙ rw (numbers-are o) in
         let w : k * width + width ≡ (k + 1) * width = sym (rw (add-one k) (suc-mul k width)) in
         let d : drop width (drop (k * width) out) ≡ drop ((k + 1) * width) out₀ = ap (drop width) drop-printed ∙ drop-drop width (k * width) out₀ ∙ ap (λ (i : ℕ). drop i out₀) w in
         record {
-          few = let z : first + k < mostRunLines = line-in-time p (first + k) (lineBytes k) l u in omega arith;
+          few = let z : first + k < mostRunLines = line-in-time p (first + k) (lineBytes k) l o in omega arith;
           good = λ j m. split (eqb j k) (λ t. rw (eqb-true j k t, v)) (λ t. h .good j (omega (arith, eqb-false j k t)));
-          system-is = ap (λ (x : Stepped). x .system) a ∙ rw (add-one k, h .system-is, n);
-          single-is = ap (λ (x : Stepped). x .single) a ∙ rw (add-one k, h .single-is, n);
           out-is =
               rw (take-printed, c, d, joined-more (printedAt p sys single first rest) k)
               (sym (append-assoc (printedTo k) (printedAt p sys single first rest k) (drop ((k + 1) * width) out₀)));
         }
 
-    -- the part that is lent is b bytes from a on
+    -- one line more, with the numbers l, in a part that is b bytes from a on
     pub ran-more :
-        (s : Stepped) (line to : List ℕ) {a b : ℕ} →
-        line ≡ lineBytes k →
-        s ≡ stepAnswer p after memory (lineNumbers p (first + k) line) →
+        (to l : List ℕ) {a b : ℕ} →
         a ≡ k * width →
         b ≡ width →
-        to ≡ stepPlace p after memory (first + k) (lineNumbers p (first + k) line) (take b (drop a out)) →
-        s .taken ≡ true →
-        Ran out₀ (k + 1) (s .system) (s .single) (putMid a b out to)
-    ran-more s line to {a} {b} e f x y g t =
-        let o = taken-some p after memory s (lineNumbers p (first + k) line) f t in
-        rw (x, y) (more-with s line to (o .0) e f (g ∙ rw (x, y)) (o .1))
+        lineNumbers p (first + k) (lineBytes k) ≡ some l →
+        to ≡ frameLine p (systemAt p sys single first rest k) (singleAt p sys single first rest k) (first + k) l →
+        Ran out₀ (k + 1) (putMid a b out to)
+    ran-more to l x y o g = rw (x, y) (more-with to l o g)
 
     -- line k is the first that is not run
     pub frames-are : (first + k < mostRunLines → readLine p sys single first rest k ≡ none) → frames p sys single first rest ≡ k
@@ -164,33 +151,33 @@ module _ (p : Plan) (sys : System) (single : Memory) (first : ℕ) (rest : List 
       abbrev r : Run
       r = record { plan = p; period = period; system = sys; single = single; frame = first }
 
-      stopped-place : out ≡ linesPlace r rest out₀
+      -- with the answer that belongs to what is left
+      abbrev pub standing : Answer → Printed
+      standing answer = printedWith answer (k * width) p period (systemAt p sys single first rest k) (singleAt p sys single first rest k) (first + k)
+
+      pub place-is : out ≡ linesPlace r rest out₀
       unfolding linesPlace printed
-      stopped-place = h .out-is ∙ rw (n, printed-length k)
+      place-is = h .out-is ∙ rw (n, printed-length k)
 
-      pub stopped-refused :
-          k * size < length rest →
-          (printedWith (RunLine (first + k + 1)) (k * width) p period after memory (first + k) ≡ linesAnswer r rest) × (out ≡ linesPlace r rest out₀)
+      pub standing-refused : k * size < length rest → standing (RunLine (first + k + 1)) ≡ linesAnswer r rest
       unfolding linesAnswer lineLeft
-      stopped-refused l = (rw (n, lt-ltb (k * size) (length rest) l, h .system-is, h .single-is), stopped-place)
+      standing-refused l = rw (n, lt-ltb (k * size) (length rest) l)
 
-      pub stopped-ended :
-          length rest ≤ k * size →
-          (printedWith Done (k * width) p period after memory (first + k) ≡ linesAnswer r rest) × (out ≡ linesPlace r rest out₀)
+      pub standing-ended : length rest ≤ k * size → standing Done ≡ linesAnswer r rest
       unfolding linesAnswer lineLeft
-      stopped-ended l = (rw (n, le-ltb (k * size) (length rest) l, h .system-is, h .single-is), stopped-place)
+      standing-ended l = rw (n, le-ltb (k * size) (length rest) l)
 
 -- ---- the places of a block of lines
 
--- line k of a block has its place
-pub block-room : (l w a b k : ℕ) → a ≤ blockLines * l → blockLines * w ≤ b → k * l < a → (k < blockLines) × (k * w + w ≤ b) × (k * w + w ≤ blockLines * w)
-block-room l w a b k f g h =
+-- line k of a block has its place: l and w are the sizes of a line read and of a line printed, a and b the lengths of what is read and of the buffer
+pub block-room : (l w a b k : ℕ) {at to width : ℕ} → a ≤ blockLines * l → blockLines * w ≤ b → at ≡ k * l → to ≡ k * w → width ≡ w → at < a → (to + width ≤ b) × (to + width ≤ blockLines * w)
+block-room l w a b k f g i j m h =
     let few : k < blockLines =
     split (ltb k blockLines) (λ t. ltb-true k blockLines t)
     (λ t. absurd (let m : blockLines * l ≤ k * l = mul-le-mul-right l (ltb-false k blockLines t) in omega arith)) in
-    let m : (k + 1) * w ≤ blockLines * w = mul-le-mul-right w (let z : k + 1 ≤ blockLines = omega arith in z) in
+    let n : (k + 1) * w ≤ blockLines * w = mul-le-mul-right w (let z : k + 1 ≤ blockLines = omega arith in z) in
     let e : (k + 1) * w ≡ k * w + w = rw (add-one k) (suc-mul k w) in
-    (few, omega arith, omega arith)
+    (omega arith, omega arith)
 
 pub one-more : (k w : ℕ) {x y : ℕ} → x ≡ k * w → y ≡ w → x + y ≡ (k + 1) * w
 one-more k w e f = rw (e, f, add-one k) (sym (suc-mul k w))

@@ -5,7 +5,7 @@ use mathlib.Core.List.{List, [], _∷_}
 use mathlib.Core.Option.{Option, none, some, Option·getD}
 use Prim.Native.Nat.{ℕ, zero, suc, _+_, _-_, _^_, _≤_, _<_, min}
 use native.Mathlib.Omega.{arith}
-use native.Mathlib.Nat.{min-eq-left, min-eq-right, min-le-right, le-min}
+use native.Mathlib.Nat.{min-eq-left, min-eq-right}
 use lib.Dec.{leb, ltb}
 use lib.ListN.{length, take, drop, replicate, length-replicate, length-drop}
 use lib.Seq.{length-take-le, take-nil, take-all, take-at}
@@ -24,10 +24,10 @@ use Rattle.system.specs.declared.System.{System}
 use Rattle.system.specs.Frame.{putOut, placeAfter}
 use Rattle.lines.specs.declared.step.Stepped.{Stepped}
 use Rattle.lines.specs.Line.{patternWidth, runWidths, runLineSize, maskIn, fillIn, inLimits, runNumbers}
-use Rattle.lines.specs.Listing.{mostRunLines, lineNumbers, systemNext, singleAfter, frameLine}
+use Rattle.lines.specs.Listing.{mostRunLines, lineNumbers}
 use Rattle.lines.proofs.ReadingLaws.{length-bad}
 use Rattle.lines.proofs.WritingLaws.{total-of-columns}
-use Rattle.lines.specs.Code.{stepAnswer, stepPlace}
+use Rattle.lines.specs.Code.{stepAnswer}
 
 -- ---- the plane values
 
@@ -52,12 +52,6 @@ part-taken l at size f =
     (λ t.
     let k : length l < at + size = leb-false (at + size) (length l) t in
     rw (min-eq-right (let z : length l ≤ at + size = omega arith in z), take-all (length l - at) (drop at l) (omega (arith, length-drop at l)), take-all size (drop at l) (omega (arith, length-drop at l))))
-
-pub part-begins : (at size len : ℕ) {end : ℕ} → end ≡ min (at + size) len → at ≤ len → at ≤ end
-part-begins at size len e l = rw e (le-min (let z : at ≤ at + size = omega arith in z) l)
-
-pub part-ends : (at size len : ℕ) {end : ℕ} → end ≡ min (at + size) len → end ≤ len
-part-ends at size len e = rw e (min-le-right (at + size) len)
 
 pub first-line : (l : List ℕ) (size : ℕ) {n : ℕ} → n ≡ min (0 + size) (length l) → take (n - 0) l ≡ take size l
 first-line l size e = rw e (part-taken l 0 size (omega arith))
@@ -153,32 +147,7 @@ take-fits zero l e = omega arith
 take-fits (suc n) [] e = absurd (omega arith)
 take-fits (suc n) (x ∷ l) e = let h : n ≤ length l = take-fits n l (omega arith) in omega arith
 
--- ---- a line that is refused or run
-
-module _ (p : Plan) (sys : System) (single : Memory) (frame : ℕ) (r : Stepped) (out : List ℕ) (o : Option (List ℕ)) where
-  pub step-refused :
-      o ≡ none →
-      (r .taken ≡ false) × (r .system ≡ sys) × (r .single ≡ single) →
-      (r ≡ stepAnswer p sys single o) × (out ≡ stepPlace p sys single frame o out)
-  unfolding stepAnswer stepPlace
-  step-refused e h = rw e ((λ i. record { taken = h .0 i; system = h .1 i; single = h .2 i }), refl)
-
-  -- `first` is the single controller, as its row holds it
-  pub step-taken :
-      (place l : List ℕ) {first : Memory} →
-      o ≡ some l →
-      first ≡ single →
-      r .taken ≡ true →
-      r .system ≡ systemNext p sys l →
-      r .single ≡ singleAfter p first l →
-      out ≡ frameLine p sys first frame l →
-      (r ≡ stepAnswer p sys single o) × (out ≡ stepPlace p sys single frame o place)
-  unfolding stepAnswer stepPlace
-  step-taken place l e m t a b f =
-      let g : r .single ≡ singleAfter p single l = b ∙ rw m in
-      rw e ((λ i. record { taken = t i; system = a i; single = g i }), f ∙ rw m)
-
--- what a step that was or was not taken says of the numbers
+-- ---- what a step that was or was not taken says of the numbers
 pub taken-none : (p : Plan) (sys : System) (single : Memory) (r : Stepped) (o : Option (List ℕ)) → r ≡ stepAnswer p sys single o → r .taken ≡ false → o ≡ none
 unfolding stepAnswer
 taken-none p sys single r none e t = refl

@@ -1,4 +1,5 @@
 -- The code's own: what its enums and structs say, and what its steps give. No definition of document 01 cites these but those of Blocks.antt, which follow the program.
+use mathlib.Core.Path.{_≡_}
 use mathlib.Core.Bool.{Bool, true, false, cond}
 use mathlib.Core.List.{List, _∷_, _++_}
 use mathlib.Core.Option.{Option, none, some}
@@ -9,13 +10,14 @@ use Rattle.answer.specs.declared.Answer.the-variants.{Done, RunLine}
 use Rattle.plan.specs.declared.Plan.{Plan}
 use Rattle.memory.specs.declared.Memory.{Memory}
 use Rattle.system.specs.declared.System.{System}
+use Rattle.rows.specs.Code.{memoryIn, Rows}
 use Rattle.lines.specs.declared.Run.{Run}
 use Rattle.lines.specs.declared.Printed.{Printed}
 use Rattle.lines.specs.declared.step.Stepped.{Stepped}
 use Rattle.lines.specs.declared.step.LineRead.{LineRead}
 use Rattle.lines.specs.declared.step.LineRead.the-variants.{Whole, Refused}
 use Rattle.lines.specs.Line.{printedSize}
-use Rattle.lines.specs.Listing.{mostRunLines, systemNext, singleAfter, frameLine, systemAt, singleAt, frames, printed, lineLeft}
+use Rattle.lines.specs.Listing.{mostRunLines, lineNumbers, systemNext, singleAfter, frameLine, systemAt, singleAt, frames, printed, lineLeft}
 use Rattle.lines.specs.Run.{runAfter, nextNumbers}
 
 -- ---- a run line that is read
@@ -38,6 +40,18 @@ stepAnswer p sys single (some l) = record { taken = true; system = systemNext p 
 unfoldable pub stepPlace : Plan → System → Memory → ℕ → Option (List ℕ) → List ℕ → List ℕ
 stepPlace p sys single frame none out = out
 stepPlace p sys single frame (some l) out = frameLine p sys single frame l
+
+-- the numbers of some line of this frame
+abbrev pub OfLine : Plan → ℕ → Option (List ℕ) → Type 0
+OfLine p frame numbers = (line : List ℕ) × (numbers ≡ lineNumbers p frame line)
+
+-- what a line makes of rows that hold a record, with the single controller in row 0: whether it is run, and what rows and place hold then
+module _ (p : Plan) (sys : System) (single : Memory) (frame : ℕ) (numbers : Option (List ℕ)) (place : List ℕ) where
+  pub record LineMade (taken : Bool) (counters cells good out : List ℕ) : Type 0 where
+    pub taken-is : taken ≡ stepAnswer p sys single numbers .taken
+    pub rows : Rows (stepAnswer p sys single numbers .system) counters cells good
+    pub first-row : memoryIn counters cells 0 ≡ stepAnswer p sys single numbers .single
+    pub out-is : out ≡ stepPlace p sys single frame numbers place
 
 abbrev pub printedWith : Answer → ℕ → Plan → ℕ → System → Memory → ℕ → Printed
 printedWith answer count plan period system single frame =

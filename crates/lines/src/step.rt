@@ -19,7 +19,7 @@ ghost use Rattle.faults.specs.Code.{Parts, Held, BadHold};
 ghost use Rattle.rows.specs.Code.{rowCount, wordCount, memoryIn, Rows};
 ghost use Rattle.lines.specs.Line.{runLineSize, printedWidths, printedSize, patternWidth, sensorsAt, runNumbers, planesAt, refusalLine, refusalSize};
 ghost use Rattle.lines.specs.Listing.{mostRunLines, lineNumbers, systemNext, singleAfter, frameLine};
-ghost use Rattle.lines.specs.Code.{blockLines, stepAnswer, stepPlace, printedWith, linesAnswer, linesPlace, ifRead, lineRead};
+ghost use Rattle.lines.specs.Code.{blockLines, stepAnswer, stepPlace, OfLine, LineMade, printedWith, linesAnswer, linesPlace, ifRead, lineRead};
 use super::Printed;
 use super::Run;
 use answer::Answer;
@@ -66,10 +66,11 @@ pub const REFUSAL: usize = LINE + 1;
 
 // ---- a run line
 
-// Mask and fill; the patterns are in the array beside it.
+// Mask and fill; the patterns are in the array beside it. `Refused` comes first: the compiler takes a test against 0 to fail, so that a line's frame counts as
+// the usual way and the vote is inlined in it.
 pub enum LineRead {
-    Whole(u64, u64),
     Refused,
+    Whole(u64, u64),
 }
 
 // The patterns of a line that has its length and its line feed.
@@ -211,16 +212,6 @@ pub fn part_end(at: usize, len: usize, size: usize) -> usize
     at + size
 }
 
-fn refused(system: System, single: Memory) -> Stepped
-    ensures { λ r. ⌜ (r .taken ≡ false) × (r .system ≡ system) × (r .single ≡ single) ⌝ }
-{
-    Stepped {
-        taken: false,
-        system,
-        single,
-    }
-}
-
 // The numbers of the line of a frame.
 fn frame_numbers(
     frame: usize,
@@ -274,53 +265,43 @@ fn finish_line(
     write_frame(out, frame, working, equal, &planes, actuators);
 }
 
-// A line by itself, with fault bytes of its own where a node is bad.
-fn line_alone(
+// What was read of a line, on rows: a frame and its line, or nothing where the line is refused. Each node's part of `faults` holds the byte that `held` has
+// for it, before and after: only a bad node's part is touched, and only where its fill is another.
+fn line_on_rows(
     plan: Plan,
     s: Sizes,
-    sensors: &[u64],
-    mask: u64,
-    fill: u64,
+    read: LineRead,
+    patterns: &[u64; Plan::SENSORS],
     frame: usize,
+    held: &mut [u8; System::NODES],
+    faults: &mut [u8],
     counters: &mut [u16],
     cells: &mut [u64],
     good: &mut [u16; System::NODES],
     out: &mut [u8],
-)
-    requires { ⌜ (accepted plan ≡ true) × (s ≡ sizesOf plan) × (length (now sensors) ≡ plan .sensors) × (fill ≤ 255) × (length (now counters) ≡ rowCount) × (length (now cells) ≡ wordCount) × (length (now out) ≡ printedSize (plan .actuators)) ⌝ }
-    ensures { λ _. ⌜ ((sys : System) → Rows sys (now (counters .entry)) (now (cells .entry)) (now (good .entry)) → Rows (systemNext plan sys (mask ∷ fill ∷ now (sensors .entry))) (now (counters .exit)) (now (cells .exit)) (now (good .exit)) × (memoryIn (now (counters .exit)) (now (cells .exit)) 0 ≡ singleAfter plan (memoryIn (now (counters .entry)) (now (cells .entry)) 0) (mask ∷ fill ∷ now (sensors .entry))) × (now (out .exit) ≡ frameLine plan sys (memoryIn (now (counters .entry)) (now (cells .entry)) 0) frame (mask ∷ fill ∷ now (sensors .entry)))) ⌝ }
+) -> bool
+    requires { ⌜ (accepted plan ≡ true) × (s ≡ sizesOf plan) × OfLine plan frame (lineRead read (take (plan .sensors) (now patterns))) × (length (now held) ≡ mostNodes) × (length (now faults) ≡ faultsSize s) × Held s (now held) (now faults) × (length (now counters) ≡ rowCount) × (length (now cells) ≡ wordCount) × (length (now out) ≡ printedSize (plan .actuators)) ⌝ }
+    ensures { λ r. ⌜ (length (now (held .exit)) ≡ mostNodes) × Held s (now (held .exit)) (now (faults .exit)) × ((sys : System) → Rows sys (now (counters .entry)) (now (cells .entry)) (now (good .entry)) → LineMade plan sys (memoryIn (now (counters .entry)) (now (cells .entry)) 0) frame (lineRead read (take (plan .sensors) (now (patterns .entry)))) (now (out .entry)) r (now (counters .exit)) (now (cells .exit)) (now (good .exit)) (now (out .exit))) ⌝ }
 {
-    if mask == 0 {
-        finish_line(
-            plan,
-            s,
-            sensors,
-            mask,
-            b"",
-            frame,
-            counters,
-            cells,
-            good,
-            out,
-        );
-        return;
-    }
-    let size = faults::step::size(s);
-    let mut held = [0u8; System::NODES];
-    let mut faults = [0u8; faults::step::MOST];
-    faults::step::hold(s, mask, fill, &mut held, &mut faults[0..size]);
+    let LineRead::Whole(mask, fill) = read else {
+        return false;
+    };
+    let sensors = s.sensors;
+    let all = &patterns[..];
+    faults::step::hold(s, mask, fill, held, faults);
     finish_line(
         plan,
         s,
-        sensors,
+        &all[0..sensors],
         mask,
-        &faults[0..size],
+        faults,
         frame,
         counters,
         cells,
         good,
         out,
     );
+    true
 }
 
 // One line of a run: a frame, or nothing where the line is refused.
@@ -336,25 +317,25 @@ pub fn line(
     requires { ⌜ (accepted plan ≡ true) × (period ≡ periodOf plan) × (length (now out) ≡ printedSize (plan .actuators)) ⌝ }
     ensures { λ r. ⌜ (r ≡ stepAnswer plan system single (lineNumbers plan frame (now (line .entry)))) × (now (out .exit) ≡ stepPlace plan system single frame (lineNumbers plan frame (now (line .entry))) (now (out .entry))) ⌝ }
 {
-    let sensors = plan.sensors;
-    let mut patterns = [0u64; Plan::SENSORS];
-    let LineRead::Whole(mask, fill) = frame_numbers(frame, line, plan.nodes, sensors, &mut patterns)
-    else {
-        return refused(system, single);
-    };
     let s = plan::numbers_of(plan, period);
+    let size = faults::step::size(s);
+    let mut held = [0u8; System::NODES];
+    let mut faults = [0u8; faults::step::MOST];
     let mut good = system.good;
     let mut counters = [0u16; rows::step::ROWS];
     let mut cells = [0u64; rows::step::WORDS];
     rows::step::put_memory(single, 0, &mut counters, &mut cells);
     rows::step::unpack(system, &mut counters, &mut cells);
-    line_alone(
+    let mut patterns = [0u64; Plan::SENSORS];
+    let read = frame_numbers(frame, line, plan.nodes, plan.sensors, &mut patterns);
+    let taken = line_on_rows(
         plan,
         s,
-        &patterns[0..sensors],
-        mask,
-        fill,
+        read,
+        &patterns,
         frame,
+        &mut held,
+        &mut faults[0..size],
         &mut counters,
         &mut cells,
         &mut good,
@@ -363,7 +344,7 @@ pub fn line(
     let after = rows::step::pack(&counters, &cells, good);
     let memory = rows::step::memory(0, &counters, &cells);
     Stepped {
-        taken: true,
+        taken,
         system: after,
         single: memory,
     }
@@ -412,8 +393,7 @@ pub fn lines(
     let system = run.system;
     let single = run.single;
     let first = run.frame;
-    let sensors = plan.sensors;
-    let size = line_size(sensors);
+    let size = line_size(plan.sensors);
     let width = printed_size(plan.actuators);
     let len = rest.len();
     let s = plan::numbers_of(plan, period);
@@ -427,38 +407,39 @@ pub fn lines(
     let mut at: usize = 0;
     let mut to: usize = 0;
     while at < len {
+        let frame = first + k;
         let end = part_end(at, len, size);
-        let LineRead::Whole(mask, fill) = frame_numbers(
-            first + k,
+        let read = frame_numbers(
+            frame,
             &rest[at..end],
             plan.nodes,
-            sensors,
+            plan.sensors,
             &mut patterns,
-        ) else {
+        );
+        if !line_on_rows(
+            plan,
+            s,
+            read,
+            &patterns,
+            frame,
+            held,
+            faults,
+            &mut counters,
+            &mut cells,
+            &mut good,
+            &mut out[to..to + width],
+        ) {
             return stopped(
-                Answer::RunLine(first + k + 1),
+                Answer::RunLine(frame + 1),
                 to,
                 plan,
                 period,
                 &counters,
                 &cells,
                 good,
-                first + k,
+                frame,
             );
-        };
-        faults::step::hold(s, mask, fill, held, faults);
-        finish_line(
-            plan,
-            s,
-            &patterns[0..sensors],
-            mask,
-            faults,
-            first + k,
-            &mut counters,
-            &mut cells,
-            &mut good,
-            &mut out[to..to + width],
-        );
+        }
         k += 1;
         at += size;
         to += width;
