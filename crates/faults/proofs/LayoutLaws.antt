@@ -61,9 +61,6 @@ module _ (s : Sizes) (h : Small s) where
 pub parts-all : (s : Sizes) (mask len : ℕ) → faultsSize s ≤ len → Parts s mask len
 parts-all s mask len h j l b = omega (arith, part-room s j (s .nodes) l)
 
-pub parts-none : (s : Sizes) (len : ℕ) → Parts s 0 len
-parts-none s len j l b = absurd (clash b (bit-none j))
-
 -- ---- one part filled
 
 pub fill-all : (x : ℕ) (l : List ℕ) → fill (λ i. x) (length l) l ≡ replicate (length l) x

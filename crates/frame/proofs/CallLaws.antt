@@ -20,7 +20,7 @@ use Rattle.memory.specs.declared.Memory.{Memory}
 use Rattle.memory.specs.declared.Outcome.{Outcome}
 use Rattle.memory.specs.Node.{computed, setpoint}
 use Rattle.plan.specs.Known.{period}
-use Rattle.plan.specs.Sizes.{numbersOf, sizesOf}
+use Rattle.plan.specs.Sizes.{sizesWith, sizesOf}
 use Rattle.plan.proofs.AcceptedLaws.{shape-of-accepted}
 use Rattle.system.specs.Fault.{faultsSize}
 use Rattle.system.specs.Counts.{isWorking}
@@ -137,7 +137,7 @@ module _ (p : Plan) (sys : System) (s : Memory) where
 
 -- ---- the fault bytes of the exact length have every part
 
-pub small-numbers : (p : Plan) → accepted p ≡ true → {r : ℕ} {s : Sizes} → s ≡ numbersOf p r → Small s
+pub small-numbers : (p : Plan) → accepted p ≡ true → {r : ℕ} {s : Sizes} → s ≡ sizesWith p r → Small s
 small-numbers p a {r} e =
     let h = shape-of-accepted p a in
     subst Small (sym e) (record { nodes = h .nodes-high; cells = h .cells-le; actuators = h .actuators-le })

@@ -32,7 +32,7 @@ fn lengths_ok(plan: Plan, sensors: usize, faults: usize, place: usize) -> bool
     ensures { λ r. ⌜ r ≡ lengthsOk plan sensors faults place ⌝ }
 {
     (sensors == plan.sensors)
-        & (faults == faults::step::size(plan::numbers_of(plan, 0)))
+        & (faults == faults::step::size(plan::sizes_with(plan, 0)))
         & (place == plan.actuators)
 }
 
@@ -49,7 +49,7 @@ fn on_rows(
     requires { ⌜ (accepted plan ≡ true) × (period ≡ periodOf plan) × (length (now sensors) ≡ plan .sensors) × (length (now faults) ≡ faultsSize (sizesOf plan)) × (length (now place) ≡ plan .actuators) ⌝ }
     ensures { λ r. ⌜ (r ≡ systemAfter plan system (now (sensors .entry)) mask (now (faults .entry))) × (now (place .exit) ≡ placeAfter plan system (now (sensors .entry)) mask (now (faults .entry)) (now (place .entry))) ⌝ }
 {
-    let s = plan::numbers_of(plan, period);
+    let s = plan::sizes_with(plan, period);
     let mut good = system.good;
     let mut counters = [0u16; rows::step::ROWS];
     let mut cells = [0u64; rows::step::WORDS];

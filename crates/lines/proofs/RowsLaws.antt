@@ -14,7 +14,7 @@ use Rattle.plan.specs.declared.Plan.{Plan}
 use Rattle.plan.specs.declared.Sizes.{Sizes}
 use Rattle.plan.specs.Limits.{mostNodes, mostActuators}
 use Rattle.plan.specs.Known.{period as periodOf}
-use Rattle.plan.specs.Sizes.{numbersOf as sizesBy, sizesOf}
+use Rattle.plan.specs.Sizes.{sizesWith as sizesBy, sizesOf}
 use Rattle.memory.specs.declared.Memory.{Memory}
 use Rattle.system.specs.declared.System.{System}
 use Rattle.system.specs.Counts.{isWorking}
@@ -29,7 +29,7 @@ use Rattle.lines.specs.declared.step.Stepped.{Stepped}
 use Rattle.lines.specs.declared.step.LineRead.{LineRead}
 use Rattle.lines.specs.declared.step.LineRead.the-variants.{Whole}
 use Rattle.lines.specs.Line.{printedWidths}
-use Rattle.lines.specs.Listing.{lineNumbers, faultBytes, systemNext, singleAfter, planes, working, equal, frameLine}
+use Rattle.lines.specs.Listing.{lineNumbers, faultBytes, systemNext, singleAfter, planeValues, working, equal, frameLine}
 use Rattle.lines.specs.Code.{stepAnswer, stepPlace, OfLine, LineMade, lineRead}
 use Rattle.lines.proofs.StepLaws.{line-early, line-in-time, planes-lent, Within, numbers-within, take-fits}
 
@@ -53,8 +53,8 @@ module _ (p : Plan) (s : Sizes) (e : s ≡ sizesOf p) (sys : System) (vs : List 
     pub rows-next : {counters cells good : List ℕ} → Rows (systemAfter p sys vs mask faults) counters cells good → Rows (systemNext p sys numbers) counters cells good
     rows-next {counters} {cells} {good} = subst (λ (t : System). Rows t counters cells good) next-is
 
-    planes-are : placeAfter p sys vs mask faults (replicate (p .actuators) 0) ≡ planes p sys numbers
-    unfolding planes faultBytes
+    planes-are : placeAfter p sys vs mask faults (replicate (p .actuators) 0) ≡ planeValues p sys numbers
+    unfolding planeValues faultBytes
     planes-are = faults-of-bad p sys vs mask faults (replicate (faultsSize (sizesOf p)) x) same-bytes .1 (replicate (p .actuators) 0)
 
     -- the plane values in the front of their array
@@ -63,12 +63,12 @@ module _ (p : Plan) (s : Sizes) (e : s ≡ sizesOf p) (sys : System) (vs : List 
         zeros ≡ replicate mostActuators 0 →
         p .actuators ≤ mostActuators →
         place ≡ placeAfter p sys vs mask faults (take (s .actuators - 0) (drop 0 zeros)) →
-        take (s .actuators) (putMid 0 (s .actuators - 0) zeros place) ≡ planes p sys numbers
+        take (s .actuators) (putMid 0 (s .actuators - 0) zeros place) ≡ planeValues p sys numbers
     planes-read zeros place z l =
         subst
         (λ (n : ℕ).
         place ≡ placeAfter p sys vs mask faults (take (n - 0) (drop 0 zeros)) →
-        take n (putMid 0 (n - 0) zeros place) ≡ planes p sys numbers)
+        take n (putMid 0 (n - 0) zeros place) ≡ planeValues p sys numbers)
         (ap (λ (t : Sizes). t .actuators) (sym e))
         (λ f. planes-lent p sys vs faults zeros place mask z l f ∙ planes-are)
 
@@ -92,7 +92,7 @@ module _ (p : Plan) (s : Sizes) (e : s ≡ sizesOf p) (sys : System) (vs : List 
       out ≡ row (printedWidths (s .actuators)) (frame ∷ w ∷ g ∷ us) →
       w ≡ working p sys numbers →
       g ≡ equal p (systemNext p sys numbers) (singleAfter p single numbers) →
-      us ≡ planes p sys numbers →
+      us ≡ planeValues p sys numbers →
       out ≡ frameLine p sys single frame numbers
   unfolding frameLine
   line-is single frame o f g h = o ∙ rw (e, f, g, h)

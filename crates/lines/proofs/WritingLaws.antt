@@ -21,8 +21,8 @@ use Rattle.column.proofs.BufferLaws.{laid-none, lay}
 use Rattle.plan.specs.declared.Plan.{Plan}
 use Rattle.memory.specs.declared.Memory.{Memory}
 use Rattle.system.specs.declared.System.{System}
-use Rattle.lines.specs.Listing.{systemNext, planes, working, singleAfter, equal, frameLine}
-use Rattle.lines.specs.Line.{patternWidth, planesAt, printedWidths, printedSize, refusalLine, refusalSize}
+use Rattle.lines.specs.Listing.{systemNext, planeValues, working, singleAfter, equal, frameLine}
+use Rattle.lines.specs.Line.{patternWidth, planeValuesAt, printedWidths, printedSize, refusalLine, refusalSize}
 
 -- ---- a column at a place
 
@@ -45,27 +45,27 @@ module _ (v : ℕ → ℕ) where
   columns-length (suc n) =
       length-append (planeColumns n) (column patternWidth (v n)) ∙ rw (columns-length n, column-length patternWidth (v n)) (omega arith)
 
-  pub columns-none : (s : List ℕ) → s ≡ placed s planesAt (planeColumns 0)
+  pub columns-none : (s : List ℕ) → s ≡ placed s planeValuesAt (planeColumns 0)
   unfolding joined
-  columns-none s = placed-none s planesAt
+  columns-none s = placed-none s planeValuesAt
 
-  module _ (s xs : List ℕ) (n : ℕ) (e : xs ≡ placed s planesAt (planeColumns n)) where
-    pub columns-size : planesAt + patternWidth * n ≤ length s → length xs ≡ length s
-    columns-size l = ap length e ∙ placed-length s planesAt (planeColumns n) (omega (arith, columns-length n))
+  module _ (s xs : List ℕ) (n : ℕ) (e : xs ≡ placed s planeValuesAt (planeColumns n)) where
+    pub columns-size : planeValuesAt + patternWidth * n ≤ length s → length xs ≡ length s
+    columns-size l = ap length e ∙ placed-length s planeValuesAt (planeColumns n) (omega (arith, columns-length n))
 
     -- one more
-    pub columns-more : {ys : List ℕ} → planesAt ≤ length s → ys ≡ placed xs (planesAt + patternWidth * n) (column patternWidth (v n)) → ys ≡ placed s planesAt (planeColumns (n + 1))
+    pub columns-more : {ys : List ℕ} → planeValuesAt ≤ length s → ys ≡ placed xs (planeValuesAt + patternWidth * n) (column patternWidth (v n)) → ys ≡ placed s planeValuesAt (planeColumns (n + 1))
     columns-more l f =
-        f ∙ placed-next s planesAt (planeColumns n) xs (column patternWidth (v n)) (planesAt + patternWidth * n) e (omega (arith, columns-length n)) l
-        ∙ ap (placed s planesAt) (sym (joined-more (λ a. column patternWidth (v a)) n))
+        f ∙ placed-next s planeValuesAt (planeColumns n) xs (column patternWidth (v n)) (planeValuesAt + patternWidth * n) e (omega (arith, columns-length n)) l
+        ∙ ap (placed s planeValuesAt) (sym (joined-more (λ a. column patternWidth (v a)) n))
 
     -- and the line feed
     pub columns-ended :
         printedSize n ≤ length s →
-        set xs (planesAt + patternWidth * n) 10 ≡ placed s planesAt (planeColumns n ++ (10 ∷ []))
+        set xs (planeValuesAt + patternWidth * n) 10 ≡ placed s planeValuesAt (planeColumns n ++ (10 ∷ []))
     columns-ended l =
-        set-split xs (planesAt + patternWidth * n) 10 (omega (arith, columns-size (omega arith)))
-        ∙ rw (← add-one (planesAt + patternWidth * n)) (placed-next s planesAt (planeColumns n) xs (10 ∷ []) (planesAt + patternWidth * n) e (omega (arith, columns-length n)) (omega arith))
+        set-split xs (planeValuesAt + patternWidth * n) 10 (omega (arith, columns-size (omega arith)))
+        ∙ rw (← add-one (planeValuesAt + patternWidth * n)) (placed-next s planeValuesAt (planeColumns n) xs (10 ∷ []) (planeValuesAt + patternWidth * n) e (omega (arith, columns-length n)) (omega arith))
 
 -- ---- rows
 
@@ -108,7 +108,7 @@ module _ (s : List ℕ) (n : ℕ) (size : length s ≡ printedSize n) (f w g : �
       a ≡ placed s 0 (column 8 f) →
       b ≡ placed a 8 (column 4 w) →
       c ≡ placed b 12 (column 4 g) →
-      d ≡ placed c planesAt (planeColumns (λ k. getD vs k 0) n ++ (10 ∷ [])) →
+      d ≡ placed c planeValuesAt (planeColumns (λ k. getD vs k 0) n ++ (10 ∷ [])) →
       d ≡ row (printedWidths n) (f ∷ w ∷ g ∷ take n vs)
   frame-row {a} {b} {c} {d} x y z u =
       let t1 : List ℕ = column 8 f in
@@ -116,10 +116,10 @@ module _ (s : List ℕ) (n : ℕ) (size : length s ≡ printedSize n) (f w g : �
       let t3 : List ℕ = t2 ++ column 4 g in
       let l1 : length t1 ≡ 8 = column-length 8 f in
       let l2 : length t2 ≡ 12 = length-append t1 (column 4 w) ∙ rw (l1, column-length 4 w) in
-      let l3 : length t3 ≡ planesAt = length-append t2 (column 4 g) ∙ rw (l2, column-length 4 g) in
+      let l3 : length t3 ≡ planeValuesAt = length-append t2 (column 4 g) ∙ rw (l2, column-length 4 g) in
       let y2 : b ≡ placed s 0 t2 = y ∙ placed-next s 0 t1 a (column 4 w) 8 x (omega arith) (omega arith) in
       let z2 : c ≡ placed s 0 t3 = z ∙ placed-next s 0 t2 b (column 4 g) 12 y2 (omega arith) (omega arith) in
-      u ∙ placed-next s 0 t3 c (planeColumns (λ k. getD vs k 0) n ++ (10 ∷ [])) planesAt z2 (omega arith) (omega arith)
+      u ∙ placed-next s 0 t3 c (planeColumns (λ k. getD vs k 0) n ++ (10 ∷ [])) planeValuesAt z2 (omega arith) (omega arith)
       ∙ placed-whole s frameColumns frame-size
       ∙ frame-columns
 
@@ -155,5 +155,5 @@ total-of-columns (suc n) = rw (total-of-columns n) (omega arith)
 pub frame-length : (p : Plan) (sys : System) (single : Memory) (frame : ℕ) (l : List ℕ) → length (frameLine p sys single frame l) ≡ printedSize (p .actuators)
 unfolding frameLine printedWidths total
 frame-length p sys single frame l =
-    row-length (printedWidths (p .actuators)) (frame ∷ working p sys l ∷ equal p (systemNext p sys l) (singleAfter p single l) ∷ planes p sys l)
+    row-length (printedWidths (p .actuators)) (frame ∷ working p sys l ∷ equal p (systemNext p sys l) (singleAfter p single l) ∷ planeValues p sys l)
     ∙ rw (total-of-columns (p .actuators)) (omega arith)

@@ -58,11 +58,11 @@ unfoldable pub printedWidths : ℕ → List ℕ
 printedWidths a = 8 ∷ 4 ∷ 4 ∷ replicate a patternWidth
 
 -- where the plane values begin
-abbrev pub planesAt : ℕ
-planesAt = 16
+abbrev pub planeValuesAt : ℕ
+planeValuesAt = 16
 
 abbrev pub printedSize : ℕ → ℕ
-printedSize a = planesAt + patternWidth * a + 1
+printedSize a = planeValuesAt + patternWidth * a + 1
 
 -- "A refusal prints number (4) and line (8)"
 unfoldable pub refusalLine : Answer → List ℕ

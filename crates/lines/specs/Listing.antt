@@ -51,8 +51,8 @@ module _ (p : Plan) (sys : System) (l : List ℕ) where
   unfoldable pub systemNext : System
   systemNext = systemAfter p sys (patternsIn l) (maskIn l) faultBytes
 
-  unfoldable pub planes : List ℕ
-  planes = placeAfter p sys (patternsIn l) (maskIn l) faultBytes (replicate (p .actuators) 0)
+  unfoldable pub planeValues : List ℕ
+  planeValues = placeAfter p sys (patternsIn l) (maskIn l) faultBytes (replicate (p .actuators) 0)
 
   unfoldable pub working : ℕ
   working = howMany (isWorking (period p) (maskIn l) (sys .good)) (p .nodes)
@@ -68,7 +68,7 @@ equal p sys single = howMany (λ i. sameMemory p (memoryOf sys i) single) (p .no
 unfoldable pub frameLine : Plan → System → Memory → ℕ → List ℕ → List ℕ
 frameLine p sys single frame l =
     row (printedWidths (p .actuators))
-    (frame ∷ working p sys l ∷ equal p (systemNext p sys l) (singleAfter p single l) ∷ planes p sys l)
+    (frame ∷ working p sys l ∷ equal p (systemNext p sys l) (singleAfter p single l) ∷ planeValues p sys l)
 
 -- ---- a run, or what is left of one, whose first frame has the number `first` and finds this record and this single controller
 

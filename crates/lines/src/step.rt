@@ -17,7 +17,7 @@ ghost use Rattle.plan.specs.Sizes.{sizesOf};
 ghost use Rattle.system.specs.Fault.{faultsSize};
 ghost use Rattle.faults.specs.Code.{Parts, Held, BadHold};
 ghost use Rattle.rows.specs.Code.{rowCount, wordCount, memoryIn, Rows};
-ghost use Rattle.lines.specs.Line.{runLineSize, printedWidths, printedSize, patternWidth, sensorsAt, runNumbers, planesAt, refusalLine, refusalSize};
+ghost use Rattle.lines.specs.Line.{runLineSize, printedWidths, printedSize, patternWidth, sensorsAt, runNumbers, planeValuesAt, refusalLine, refusalSize};
 ghost use Rattle.lines.specs.Listing.{mostRunLines, lineNumbers, systemNext, singleAfter, frameLine};
 ghost use Rattle.lines.specs.Code.{blockLines, stepAnswer, stepPlace, OfLine, LineMade, printedWith, linesAnswer, linesPlace, ifRead, lineRead};
 use super::Printed;
@@ -138,13 +138,13 @@ fn put(out: &mut [u8], at: usize, width: usize, v: u64)
 }
 
 // The plane values, and the line feed.
-fn put_planes(out: &mut [u8], planes: &[u64; Plan::ACTUATORS], count: usize)
+fn put_plane_values(out: &mut [u8], values: &[u64; Plan::ACTUATORS], count: usize)
     requires { ⌜ (count ≤ mostActuators) × (printedSize count ≤ length (now out)) ⌝ }
-    ensures { λ _. ⌜ now (out .exit) ≡ placed (now (out .entry)) planesAt (joined (λ a. column patternWidth (getD (now (planes .entry)) a 0)) count ++ (10 ∷ [])) ⌝ }
+    ensures { λ _. ⌜ now (out .exit) ≡ placed (now (out .entry)) planeValuesAt (joined (λ a. column patternWidth (getD (now (values .entry)) a 0)) count ++ (10 ∷ [])) ⌝ }
 {
     let mut a: usize = 0;
     while a < count {
-        put(out, EQUAL + PATTERN * a, PATTERN, planes[a]);
+        put(out, EQUAL + PATTERN * a, PATTERN, values[a]);
         a += 1;
     }
     out[EQUAL + PATTERN * count] = b'\n';
@@ -156,16 +156,16 @@ fn write_frame(
     frame: usize,
     working: usize,
     equal: usize,
-    planes: &[u64; Plan::ACTUATORS],
+    values: &[u64; Plan::ACTUATORS],
     count: usize,
 )
     requires { ⌜ (count ≤ mostActuators) × (length (now out) ≡ printedSize count) ⌝ }
-    ensures { λ _. ⌜ now (out .exit) ≡ row (printedWidths count) (frame ∷ working ∷ equal ∷ take count (now (planes .entry))) ⌝ }
+    ensures { λ _. ⌜ now (out .exit) ≡ row (printedWidths count) (frame ∷ working ∷ equal ∷ take count (now (values .entry))) ⌝ }
 {
     put(out, 0, FRAME, frame as u64);
     put(out, FRAME, COUNT, working as u64);
     put(out, WORKING, COUNT, equal as u64);
-    put_planes(out, planes, count);
+    put_plane_values(out, values, count);
 }
 
 // The line of a refusal.
@@ -248,7 +248,7 @@ fn finish_line(
     let nodes = s.nodes;
     let actuators = s.actuators;
     let working = counts::step::working(good, nodes, s.period, mask);
-    let mut planes = [0u64; Plan::ACTUATORS];
+    let mut values = [0u64; Plan::ACTUATORS];
     row_frame::step::frame(
         plan,
         s,
@@ -259,10 +259,10 @@ fn finish_line(
         counters,
         cells,
         good,
-        &mut planes[0..actuators],
+        &mut values[0..actuators],
     );
     let equal = rows::step::equal(counters, cells, nodes, s.cells);
-    write_frame(out, frame, working, equal, &planes, actuators);
+    write_frame(out, frame, working, equal, &values, actuators);
 }
 
 // What was read of a line, on rows: a frame and its line, or nothing where the line is refused. Each node's part of `faults` holds the byte that `held` has
@@ -317,7 +317,7 @@ pub fn line(
     requires { ⌜ (accepted plan ≡ true) × (period ≡ periodOf plan) × (length (now out) ≡ printedSize (plan .actuators)) ⌝ }
     ensures { λ r. ⌜ (r ≡ stepAnswer plan system single (lineNumbers plan frame (now (line .entry)))) × (now (out .exit) ≡ stepPlace plan system single frame (lineNumbers plan frame (now (line .entry))) (now (out .entry))) ⌝ }
 {
-    let s = plan::numbers_of(plan, period);
+    let s = plan::sizes_with(plan, period);
     let size = faults::step::size(s);
     let mut held = [0u8; System::NODES];
     let mut faults = [0u8; faults::step::MOST];
@@ -396,7 +396,7 @@ pub fn lines(
     let size = line_size(plan.sensors);
     let width = printed_size(plan.actuators);
     let len = rest.len();
-    let s = plan::numbers_of(plan, period);
+    let s = plan::sizes_with(plan, period);
     let mut good = system.good;
     let mut counters = [0u16; rows::step::ROWS];
     let mut cells = [0u64; rows::step::WORDS];

@@ -95,19 +95,19 @@ fn cells_at(mailbox: &[u8], n: usize, cells: usize, c: usize) -> [u64; Plan::NOD
 
 // ---- the vote
 
-// A vote by what is lent of a plan.
+// A vote by what is lent of a plan; `width` is how many cells it has.
 pub fn vote_with(
     voted: &[bool; Plan::VOTES],
     nodes: usize,
     frames: usize,
-    count: usize,
+    width: usize,
     memory: Memory,
     mailbox: &[u8],
 ) -> Memory
-    requires { ⌜ (nodes ≤ mostNodes) × (0 < frames) × (frames ≤ mostFrames) × (count ≤ mostCells) × (length (now mailbox) ≡ nodes * binBytes count) ⌝ }
-    ensures { λ r. ⌜ ((p : Plan) → p .voted ≡ now (voted .entry) → p .nodes ≡ nodes → p .frames ≡ frames → p .cells ≡ count → r ≡ votedOf p memory (now (mailbox .entry))) ⌝ }
+    requires { ⌜ (nodes ≤ mostNodes) × (0 < frames) × (frames ≤ mostFrames) × (width ≤ mostCells) × (length (now mailbox) ≡ nodes * binBytes width) ⌝ }
+    ensures { λ r. ⌜ ((p : Plan) → p .voted ≡ now (voted .entry) → p .nodes ≡ nodes → p .frames ≡ frames → p .cells ≡ width → r ≡ votedOf p memory (now (mailbox .entry))) ⌝ }
 {
-    let bins = counters(mailbox, nodes, count);
+    let bins = counters(mailbox, nodes, width);
     let counter = ballot::step::or_own(
         frames,
         memory.counter,
@@ -116,9 +116,9 @@ pub fn vote_with(
     let frame = memory::step::frame_before(counter, frames);
     let mut cells = memory.cells;
     let mut c: usize = 0;
-    while c < count {
+    while c < width {
         if plan::step::is_voted(voted, frame, c) {
-            let values = cells_at(mailbox, nodes, count, c);
+            let values = cells_at(mailbox, nodes, width, c);
             cells[c] = ballot::step::or_old(
                 ballot::step::majority(&values, nodes, nodes),
                 cells[c],

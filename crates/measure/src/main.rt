@@ -143,7 +143,7 @@ fn step_often(plan: Plan, what: u64, times: u64) -> u64 {
     }
     let size = memory::step::message_size(cells);
     let end = memory::step::bin_at(nodes, cells);
-    let all = faults::step::size(plan::numbers_of(plan, 0));
+    let all = faults::step::size(plan::sizes_with(plan, 0));
     let mut sensors = [0u64; Plan::SENSORS];
     let mut bins = [0u8; 1806];
     let mut out = [0u8; 258];

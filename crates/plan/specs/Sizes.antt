@@ -5,8 +5,8 @@ use Rattle.plan.specs.declared.Sizes.{Sizes}
 use Rattle.plan.specs.Known.{period}
 
 -- a plan's own numbers, beside this one for its period
-abbrev pub numbersOf : Plan → ℕ → Sizes
-numbersOf p r =
+abbrev pub sizesWith : Plan → ℕ → Sizes
+sizesWith p r =
     record {
       nodes = p .nodes;
       frames = p .frames;
@@ -18,4 +18,4 @@ numbersOf p r =
 
 -- whose numbers they are: `s ≡ sizesOf p`
 abbrev pub sizesOf : Plan → Sizes
-sizesOf p = numbersOf p (period p)
+sizesOf p = sizesWith p (period p)

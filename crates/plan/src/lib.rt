@@ -1,7 +1,7 @@
 // The plan record, and which records are of form. The recovery period is in `plan_period`.
 ghost use mathlib.Core.Path.{_≡_};
 ghost use Rattle.plan.specs.Accepted.{wellFormed};
-ghost use Rattle.plan.specs.Sizes.{numbersOf};
+ghost use Rattle.plan.specs.Sizes.{sizesWith};
 use pattern::WindLaw;
 
 pub mod entries;
@@ -66,8 +66,8 @@ pub struct Sizes {
     pub period: usize,
 }
 
-pub fn numbers_of(p: Plan, period: usize) -> Sizes
-    ensures { λ r. ⌜ r ≡ numbersOf p period ⌝ }
+pub fn sizes_with(p: Plan, period: usize) -> Sizes
+    ensures { λ r. ⌜ r ≡ sizesWith p period ⌝ }
 {
     Sizes {
         nodes: p.nodes,

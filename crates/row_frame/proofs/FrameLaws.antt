@@ -19,7 +19,7 @@ use Rattle.plan.specs.declared.Sizes.{Sizes}
 use Rattle.plan.specs.Limits.{mostNodes, mostFrames, mostCells}
 use Rattle.plan.specs.Known.{votedIn, period}
 use Rattle.plan.specs.Accepted.{accepted}
-use Rattle.plan.specs.Sizes.{numbersOf, sizesOf}
+use Rattle.plan.specs.Sizes.{sizesWith, sizesOf}
 use Rattle.plan.proofs.AcceptedLaws.{Shape, shape-of-accepted}
 use Rattle.plan_period.proofs.AnswerLaws.{period-small}
 use Rattle.ballot.specs.Plane.{plane}
@@ -44,8 +44,8 @@ use Rattle.row_frame.specs.Code.{ran, spoiled, closedRow, putFrom}
 
 -- ---- the numbers of an accepted plan
 
-pub sizes-are : (p : Plan) {r : ℕ} {s : Sizes} → r ≡ period p → s ≡ numbersOf p r → s ≡ sizesOf p
-sizes-are p h e = e ∙ ap (numbersOf p) h
+pub sizes-are : (p : Plan) {r : ℕ} {s : Sizes} → r ≡ period p → s ≡ sizesWith p r → s ≡ sizesOf p
+sizes-are p h e = e ∙ ap (sizesWith p) h
 
 module _ (p : Plan) (accept : accepted p ≡ true) (s : Sizes) (e : s ≡ sizesOf p) where
   pub sizes-small : Small s × (0 < s .nodes) × (0 < s .frames) × (s .frames ≤ mostFrames) × (s .period < 65536)

@@ -83,7 +83,7 @@ fn put_out(
     values
 }
 
-fn planes<'a>(
+fn plane_values<'a>(
     table: &'a [usize; Plan::ACTUATORS],
     s: Sizes,
     mask: u64,
@@ -124,7 +124,7 @@ fn close<'a>(
 {
     row_vote::step::vote(voted, s, mask, faults, counters, cells);
     spoil(s, mask, faults, counters, cells);
-    planes(table, s, mask, faults, cells, place);
+    plane_values(table, s, mask, faults, cells, place);
     counts::step::counts(good, s.nodes, mask, s.period);
 }
 

@@ -49,5 +49,5 @@ pub record Through (n : ℕ) (f : ℕ → Memory → Memory) (counters cells cou
 
 -- row q has the single controller's memory
 unfoldable pub sameRow : ℕ → List ℕ → List ℕ → ℕ → Bool
-sameRow count counters cells q =
-    eqb (getD counters q 0) (getD counters 0 0) && allBelow (λ c. eqb (getD (rowOf cells q) c 0) (getD (rowOf cells 0) c 0)) count
+sameRow width counters cells q =
+    eqb (getD counters q 0) (getD counters 0 0) && allBelow (λ c. eqb (getD (rowOf cells q) c 0) (getD (rowOf cells 0) c 0)) width

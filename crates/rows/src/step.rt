@@ -100,16 +100,17 @@ pub fn pack(counters: &[u16], cells: &[u64], good: [u16; System::NODES]) -> Syst
 
 // ---- the nodes whose memory equals the single controller's
 
-fn same_row(counters: &[u16], cells: &[u64], count: usize, r: usize) -> bool
-    requires { ⌜ (length (now counters) ≡ rowCount) × (length (now cells) ≡ wordCount) × (count ≤ mostCells) × (r < rowCount) ⌝ }
-    ensures { λ b. ⌜ b ≡ sameRow count (now (counters .entry)) (now (cells .entry)) r ⌝ }
+// The first `width` cells are compared: those of the plan.
+fn same_row(counters: &[u16], cells: &[u64], width: usize, r: usize) -> bool
+    requires { ⌜ (length (now counters) ≡ rowCount) × (length (now cells) ≡ wordCount) × (width ≤ mostCells) × (r < rowCount) ⌝ }
+    ensures { λ b. ⌜ b ≡ sameRow width (now (counters .entry)) (now (cells .entry)) r ⌝ }
 {
     if counters[r] != counters[0] {
         return false;
     }
     let at = Plan::CELLS * r;
     let mut c: usize = 0;
-    while c < count {
+    while c < width {
         if cells[at + c] != cells[c] {
             return false;
         }
@@ -118,14 +119,14 @@ fn same_row(counters: &[u16], cells: &[u64], count: usize, r: usize) -> bool
     true
 }
 
-pub fn equal(counters: &[u16], cells: &[u64], nodes: usize, count: usize) -> usize
-    requires { ⌜ (length (now counters) ≡ rowCount) × (length (now cells) ≡ wordCount) × (nodes ≤ mostNodes) × (count ≤ mostCells) ⌝ }
-    ensures { λ r. ⌜ r ≡ howMany (λ j. sameRow count (now (counters .entry)) (now (cells .entry)) (j + 1)) nodes ⌝ }
+pub fn equal(counters: &[u16], cells: &[u64], nodes: usize, width: usize) -> usize
+    requires { ⌜ (length (now counters) ≡ rowCount) × (length (now cells) ≡ wordCount) × (nodes ≤ mostNodes) × (width ≤ mostCells) ⌝ }
+    ensures { λ r. ⌜ r ≡ howMany (λ j. sameRow width (now (counters .entry)) (now (cells .entry)) (j + 1)) nodes ⌝ }
 {
     let mut same: usize = 0;
     let mut j: usize = 0;
     while j < nodes {
-        if same_row(counters, cells, count, j + 1) {
+        if same_row(counters, cells, width, j + 1) {
             same += 1;
         }
         j += 1;

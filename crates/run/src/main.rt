@@ -107,7 +107,7 @@ fn follow(file: i32, start: Run)
     requires { ⌜ (accepted (start .plan) ≡ true) × (start .period ≡ periodOf (start .plan)) × (start .frame ≤ mostRunLines) ⌝ }
 {
     let size = lines::step::BLOCK * lines::step::line_size(start.plan.sensors);
-    let bytes = faults::step::size(plan::numbers_of(start.plan, start.period));
+    let bytes = faults::step::size(plan::sizes_with(start.plan, start.period));
     let mut run = start;
     let mut input = [0u8; INPUT];
     let mut out = [0u8; OUTPUT];

@@ -10,7 +10,7 @@ frame-requires : tie.Need-frame-requires
 frame-requires c κs =
     let a = c .before .before .before .before .before .before .before .before .before .before .before .before .before .before .args in
     let q = c .before .before .before .before .before .before .before .before .before .before .before .before .before .before .pre in
-    let e = sizes-are (a .plan) (q .1) (c .before .before .before .before .before .before .before .before .before .before .numbers-of .ensures) in
+    let e = sizes-are (a .plan) (q .1) (c .before .before .before .before .before .before .before .before .before .before .sizes-with .ensures) in
     (q .0, e, omega arith, q .2, parts-exact (a .plan) (a .mask) _ e (q .3), search needs, search needs, q .4)
 
 returns : tie.Need-returns

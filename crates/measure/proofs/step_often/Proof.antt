@@ -1,7 +1,7 @@
 -- `measure::step_often` is safe: the parts lent lie in the buffers.
 use mathlib.Core.Path.{sym, ap, _∙_, subst}
 use native.Mathlib.Omega.{arith}
-use Rattle.plan.specs.Sizes.{numbersOf}
+use Rattle.plan.specs.Sizes.{sizesWith}
 use Rattle.system.specs.Fault.{faultsSize}
 use Rattle.faults.specs.Code.{Small}
 use Rattle.faults.proofs.LayoutLaws.{bins-most, most-enough}
@@ -10,17 +10,17 @@ use Rattle.measure.proofs.step_often.Statement.{statement}
 use Rattle.measure.proofs.step_often.Tie as tie
 
 size-requires : tie.Need-size-requires
-size-requires c κs = subst Small (sym (c .numbers-of .ensures)) (record { nodes = c .before .before .before .before .before .before .if1 .left; cells = c .before .before .before .before .before .if2 .left; actuators = c .before .before .before .if4 .left })
+size-requires c κs = subst Small (sym (c .sizes-with .ensures)) (record { nodes = c .before .before .before .before .before .before .if1 .left; cells = c .before .before .before .before .before .if2 .left; actuators = c .before .before .before .if4 .left })
 
 part-bins-end : tie.Need-part-bins-end
 part-bins-end c =
     let p = c .before .before .before .before .before .before .before .before .before .before .args .plan in
-    omega (arith, c .before .before .before .before .bin-at .ensures, bins-most (numbersOf p 0) (record { nodes = c .before .before .before .before .before .before .before .before .before .if1 .left; cells = c .before .before .before .before .before .before .before .before .if2 .left; actuators = c .before .before .before .before .before .before .if4 .left }) (p .nodes) (c .before .before .before .before .before .before .before .before .before .if1 .left))
+    omega (arith, c .before .before .before .before .bin-at .ensures, bins-most (sizesWith p 0) (record { nodes = c .before .before .before .before .before .before .before .before .before .if1 .left; cells = c .before .before .before .before .before .before .before .before .if2 .left; actuators = c .before .before .before .before .before .before .if4 .left }) (p .nodes) (c .before .before .before .before .before .before .before .before .before .if1 .left))
 
 part-frame-often-end : tie.Need-part-frame-often-end
 part-frame-often-end c =
     let p = c .before .before .before .before .before .before .before .before .before .before .before .args .plan in
-    omega (arith, c .before .before .before .size .ensures ∙ ap faultsSize (c .before .before .before .before .numbers-of .ensures), most-enough (numbersOf p 0) (record { nodes = c .before .before .before .before .before .before .before .before .before .before .if1 .left; cells = c .before .before .before .before .before .before .before .before .before .if2 .left; actuators = c .before .before .before .before .before .before .before .if4 .left }))
+    omega (arith, c .before .before .before .size .ensures ∙ ap faultsSize (c .before .before .before .before .sizes-with .ensures), most-enough (sizesWith p 0) (record { nodes = c .before .before .before .before .before .before .before .before .before .before .if1 .left; cells = c .before .before .before .before .before .before .before .before .before .if2 .left; actuators = c .before .before .before .before .before .before .before .if4 .left }))
 
 pub step-often-spec : {M : Type 1} → statement M
 step-often-spec =

@@ -15,7 +15,7 @@ use Rattle.plan.specs.declared.Plan.{Plan}
 use Rattle.plan.specs.declared.Sizes.{Sizes}
 use Rattle.plan.specs.Known.{period}
 use Rattle.plan.specs.Limits.{mostNodes}
-use Rattle.plan.specs.Sizes.{numbersOf, sizesOf}
+use Rattle.plan.specs.Sizes.{sizesWith, sizesOf}
 use Rattle.plan.specs.Accepted.{accepted}
 use Rattle.plan.proofs.AcceptedLaws.{shape-of-accepted}
 use Rattle.system.specs.Fault.{faultsSize}
@@ -47,7 +47,7 @@ mul-size c = omega (arith, c .line-size .ensures, shape-of-accepted (c .before .
 size-requires : tie.Need-size-requires Inv-loop μ-loop
 size-requires c κs =
     let h = shape-of-accepted (c .before .before .args .start .plan) (c .before .before .pre .0) in
-    subst Small (sym (c .numbers-of .ensures)) (record { nodes = h .nodes-high; cells = h .cells-le; actuators = h .actuators-le })
+    subst Small (sym (c .sizes-with .ensures)) (record { nodes = h .nodes-high; cells = h .cells-le; actuators = h .actuators-le })
 
 loop-holds : tie.Need-loop-holds Inv-loop μ-loop
 loop-holds c =
@@ -58,13 +58,13 @@ part-input-end : tie.Need-part-input-end Inv-loop μ-loop
 part-input-end c = omega (arith, c .before .before .before .line-size .ensures, shape-of-accepted (c .before .before .before .before .args .start .plan) (c .before .before .before .before .pre .0) .sensors-le, c .loop .inv .4)
 
 -- the fault bytes of the run's plan lie in the buffer
-bytes-fit : (p : Plan) {s : Sizes} {n len : ℕ} → accepted p ≡ true → {r : ℕ} → s ≡ numbersOf p r → n ≡ faultsSize s → len ≡ 14896 → (n ≡ faultsSize (sizesOf p)) × (n ≤ len)
+bytes-fit : (p : Plan) {s : Sizes} {n len : ℕ} → accepted p ≡ true → {r : ℕ} → s ≡ sizesWith p r → n ≡ faultsSize s → len ≡ 14896 → (n ≡ faultsSize (sizesOf p)) × (n ≤ len)
 bytes-fit p {s} {n} {len} a {r} e f l =
     let same : n ≡ faultsSize (sizesOf p) = f ∙ ap faultsSize e in
     (same, omega (arith, most-enough (sizesOf p) (small-of-shape p (shape-of-accepted p a))))
 
 part-faults-end : tie.Need-part-faults-end Inv-loop μ-loop
-part-faults-end c = bytes-fit (c .before .before .before .before .before .before .args .start .plan) (c .before .before .before .before .before .before .pre .0) (c .before .before .before .before .numbers-of .ensures) (c .before .before .before .size .ensures) (c .before .before .loop .inv .7) .1
+part-faults-end c = bytes-fit (c .before .before .before .before .before .before .args .start .plan) (c .before .before .before .before .before .before .pre .0) (c .before .before .before .before .sizes-with .ensures) (c .before .before .before .size .ensures) (c .before .before .loop .inv .7) .1
 
 part-out-end : tie.Need-part-out-end Inv-loop μ-loop
 part-out-end c = omega (arith, c .before .before .before .loop .inv .5)
@@ -79,7 +79,7 @@ block-requires c κs =
     let same : l .run .plan .sensors ≡ a .start .plan .sensors = ap (λ (q : Plan). q .sensors) (l .inv .3) in
     let n : length (take (128 * size .result - 0) (l .input)) ≡ 128 * size .result = front-length (l .input) refl (omega (arith, size .ensures, h .sensors-le, l .inv .4)) in
     let m : length (take 22669 (l .out)) ≡ 22669 = length-take-le 22669 (l .out) (omega (arith, l .inv .5)) in
-    let b = bytes-fit (a .start .plan) (c .before .before .before .before .before .before .before .before .pre .0) (c .before .before .before .before .before .before .numbers-of .ensures) (c .before .before .before .before .before .size .ensures) (l .inv .7) in
+    let b = bytes-fit (a .start .plan) (c .before .before .before .before .before .before .before .before .pre .0) (c .before .before .before .before .before .before .sizes-with .ensures) (c .before .before .before .before .before .size .ensures) (l .inv .7) in
     let f : length (take (c .before .before .before .before .before .size .result - 0) (l .faults)) ≡ faultsSize (sizesOf (l .run .plan)) = front-length (l .faults) refl (b .1) ∙ b .0 ∙ ap (λ (q : Plan). faultsSize (sizesOf q)) (sym (l .inv .3)) in
     (l .inv .0, l .inv .1, l .inv .2, omega (arith, n, size .ensures, same), l .inv .6, f, l .inv .8, omega (arith, m, p .actuators-le))
 
@@ -127,7 +127,7 @@ loop-again c =
     let l = c .before .before .before .before .before .before .before .before .before .before .before .loop in
     let b = c .before .before .before .before .before .before .block in
     let k = c .before .before .before .before .before .before .before .before .before .before .before .before .size .result in
-    let fit = bytes-fit (c .before .before .before .before .before .before .before .before .before .before .before .before .before .before .before .args .start .plan) (c .before .before .before .before .before .before .before .before .before .before .before .before .before .before .before .pre .0) (c .before .before .before .before .before .before .before .before .before .before .before .before .before .numbers-of .ensures) (c .before .before .before .before .before .before .before .before .before .before .before .before .size .ensures) (l .inv .7) in
+    let fit = bytes-fit (c .before .before .before .before .before .before .before .before .before .before .before .before .before .before .before .args .start .plan) (c .before .before .before .before .before .before .before .before .before .before .before .before .before .before .before .pre .0) (c .before .before .before .before .before .before .before .before .before .before .before .before .before .sizes-with .ensures) (c .before .before .before .before .before .before .before .before .before .before .before .before .size .ensures) (l .inv .7) in
     let part : List ℕ = b .last .1 .1 .1 .1 .0 in
     let rest : List ℕ = drop (k - 0) (l .faults) in
     let back : take (k - 0) (part ++ rest) ≡ part = front-back (l .faults) part rest (k - 0) k (b .ensures .5) (omega arith) (fit .1) in

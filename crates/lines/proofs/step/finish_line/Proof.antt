@@ -18,8 +18,8 @@ use Rattle.lines.proofs.step.finish_line.Tie as tie
 working-requires : tie.Need-working-requires
 working-requires c κs = sizes-small _ (c .before .before .before .before .before .before .pre .0) _ (c .before .before .before .before .before .before .pre .1) .0 .nodes
 
-part-planes-end : tie.Need-part-planes-end
-part-planes-end c = sizes-small _ (c .before .before .before .before .before .before .before .before .before .before .pre .0) _ (c .before .before .before .before .before .before .before .before .before .before .pre .1) .0 .actuators
+part-values-end : tie.Need-part-values-end
+part-values-end c = sizes-small _ (c .before .before .before .before .before .before .before .before .before .before .pre .0) _ (c .before .before .before .before .before .before .before .before .before .before .pre .1) .0 .actuators
 
 frame-requires : tie.Need-frame-requires
 frame-requires c κs =
@@ -62,7 +62,7 @@ finish-line-spec =
     working-requires
     (λ c. search needs)
     (λ c. search needs)
-    part-planes-end
+    part-values-end
     frame-requires
     equal-requires
     write-frame-requires

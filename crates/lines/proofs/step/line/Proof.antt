@@ -18,7 +18,7 @@ size-requires : tie.Need-size-requires
 size-requires c κs =
     let p = c .before .before .before .args .plan in
     let q = c .before .before .before .pre in
-    sizes-small p (q .0) (c .numbers-of .result) (sizes-are p (c .numbers-of .ensures) (q .1)) .0
+    sizes-small p (q .0) (c .sizes-with .result) (sizes-are p (c .sizes-with .ensures) (q .1)) .0
 
 frame-numbers-requires : tie.Need-frame-numbers-requires
 frame-numbers-requires c κs = let h = shape-of-accepted (c .before .before .before .before .before .before .before .before .before .before .before .before .before .before .before .before .args .plan) (c .before .before .before .before .before .before .before .before .before .before .before .before .before .before .before .before .pre .0) in (h .nodes-high, h .sensors-le)
@@ -27,8 +27,8 @@ part-faults-end : tie.Need-part-faults-end
 part-faults-end c =
     let p = c .before .before .before .before .before .before .before .before .before .before .before .before .before .before .before .before .before .before .before .args .plan in
     let q = c .before .before .before .before .before .before .before .before .before .before .before .before .before .before .before .before .before .before .before .pre in
-    let s = c .before .before .before .before .before .before .before .before .before .before .before .before .before .before .before .before .numbers-of .result in
-    omega (arith, c .before .before .before .before .before .before .before .before .before .before .before .before .before .before .before .size .ensures, most-enough s (sizes-small p (q .0) s (sizes-are p (c .before .before .before .before .before .before .before .before .before .before .before .before .before .before .before .before .numbers-of .ensures) (q .1)) .0))
+    let s = c .before .before .before .before .before .before .before .before .before .before .before .before .before .before .before .before .sizes-with .result in
+    omega (arith, c .before .before .before .before .before .before .before .before .before .before .before .before .before .before .before .size .ensures, most-enough s (sizes-small p (q .0) s (sizes-are p (c .before .before .before .before .before .before .before .before .before .before .before .before .before .before .before .before .sizes-with .ensures) (q .1)) .0))
 
 line-on-rows-requires : tie.Need-line-on-rows-requires
 unfolding lineNumbers
@@ -36,8 +36,8 @@ line-on-rows-requires c κs =
     let a = c .before .before .before .before .before .before .before .before .before .before .before .before .before .before .before .before .before .before .before .before .before .before .before .before .args in
     let p = a .plan in
     let q = c .before .before .before .before .before .before .before .before .before .before .before .before .before .before .before .before .before .before .before .before .before .before .before .before .pre in
-    let s = c .before .before .before .before .before .before .before .before .before .before .before .before .before .before .before .before .before .before .before .before .before .numbers-of .result in
-    let e = sizes-are p (c .before .before .before .before .before .before .before .before .before .before .before .before .before .before .before .before .before .before .before .before .before .numbers-of .ensures) (q .1) in
+    let s = c .before .before .before .before .before .before .before .before .before .before .before .before .before .before .before .before .before .before .before .before .before .sizes-with .result in
+    let e = sizes-are p (c .before .before .before .before .before .before .before .before .before .before .before .before .before .before .before .before .before .before .before .before .before .sizes-with .ensures) (q .1) in
     let l : faultsSize s ≤ 14896 = most-enough s (sizes-small p (q .0) s e .0) in
     (q .0, e, (a .line .now, c .before .before .before .before .before .before .before .frame-numbers .ensures), refl, front-length (replicate 14896 0) (c .before .before .before .before .before .before .before .before .before .before .before .before .before .before .before .before .before .before .before .before .size .ensures) l, held-zero s 14896 0 (c .before .before .before .before .before .before .before .before .before .before .before .before .before .before .before .before .before .before .before .before .size .result - 0), search needs, search needs, q .2)
 

@@ -16,12 +16,12 @@ use Rattle.mailbox.proofs.step.vote_with.Statement.{statement}
 use Rattle.mailbox.proofs.step.vote_with.Tie as tie
 
 abbrev Inv-loop : tie.InvT-loop
-Inv-loop voted nodes frames count mailbox counter frame cells₀ c₀ cells c =
-    (c ≤ count) × (count ≤ mostCells) × (frame < mostFrames) × (nodes ≤ mostNodes) × (length mailbox ≡ nodes * binBytes count)
-    × (cells ≡ fill (cellAfter (lent nodes frames count 0 voted []) cells₀ mailbox frame) c cells₀)
+Inv-loop voted nodes frames width mailbox counter frame cells₀ c₀ cells c =
+    (c ≤ width) × (width ≤ mostCells) × (frame < mostFrames) × (nodes ≤ mostNodes) × (length mailbox ≡ nodes * binBytes width)
+    × (cells ≡ fill (cellAfter (lent nodes frames width 0 voted []) cells₀ mailbox frame) c cells₀)
 
 abbrev μ-loop : tie.MeasureT-loop
-μ-loop voted nodes frames count mailbox counter frame cells₀ c₀ cells c = count - c
+μ-loop voted nodes frames width mailbox counter frame cells₀ c₀ cells c = width - c
 
 counters-requires : tie.Need-counters-requires Inv-loop μ-loop
 counters-requires c κs = (c .before .pre .0, c .before .pre .3, omega (arith, c .before .pre .4))
@@ -37,7 +37,7 @@ loop-again c =
     let l = c .before .before .before .loop in
     let i = l .inv in
     let a = c .before .before .before .before .before .before .before .before .before .before .before .args in
-    let p = lent (a .nodes) (a .frames) (a .count) 0 (a .voted .now) [] in
+    let p = lent (a .nodes) (a .frames) (a .width) 0 (a .voted .now) [] in
     let box = a .mailbox .now in
     let cells = a .memory .cells in
     let g = c .before .before .before .before .before .frame-before .result in
@@ -50,7 +50,7 @@ returns : tie.Need-returns Inv-loop μ-loop
 returns c =
     let i = c .before .loop .inv in
     let a = c .before .before .before .before .before .before .before .before .before .args in
-    let p = lent (a .nodes) (a .frames) (a .count) 0 (a .voted .now) [] in
+    let p = lent (a .nodes) (a .frames) (a .width) 0 (a .voted .now) [] in
     let box = a .mailbox .now in
     λ q v n f k.
     memory-voted p (a .memory) box

@@ -14,10 +14,10 @@ use Rattle.rows.proofs.step.equal.Statement.{statement}
 use Rattle.rows.proofs.step.equal.Tie as tie
 
 abbrev Inv-loop : tie.InvT-loop
-Inv-loop counters cells nodes count same₀ j₀ same j = (j ≤ nodes) × (nodes ≤ mostNodes) × (same ≡ howMany (λ k. sameRow count counters cells (k + 1)) j) × (same ≤ j)
+Inv-loop counters cells nodes width same₀ j₀ same j = (j ≤ nodes) × (nodes ≤ mostNodes) × (same ≡ howMany (λ k. sameRow width counters cells (k + 1)) j) × (same ≤ j)
 
 abbrev μ-loop : tie.MeasureT-loop
-μ-loop counters cells nodes count same₀ j₀ same j = nodes - j
+μ-loop counters cells nodes width same₀ j₀ same j = nodes - j
 
 loop-holds : tie.Need-loop-holds Inv-loop μ-loop
 loop-holds c = (search needs, search needs, sym (howMany-none _), search needs)
@@ -25,7 +25,7 @@ loop-holds c = (search needs, search needs, sym (howMany-none _), search needs)
 loop-again : tie.Need-loop-again Inv-loop μ-loop
 loop-again c = let l = c .before .before .before .loop in
     let a = c .before .before .before .before .before .before .args in
-    let q : ℕ → Bool = λ k. sameRow (a .count) (a .counters .now) (a .cells .now) (k + 1) in
+    let q : ℕ → Bool = λ k. sameRow (a .width) (a .counters .now) (a .cells .now) (k + 1) in
     ⊎-elim
     (λ w. (search needs, search needs, w .1 ∙ counted-hit q (l .j) (l .inv .2) (sym (c .before .same-row .ensures) ∙ w .0 .taken), omega (arith, w .1, l .inv .3)))
     (λ w. (search needs, search needs, w .1 ∙ counted-miss q (l .j) (l .inv .2) (sym (c .before .same-row .ensures) ∙ w .0 .left), omega (arith, w .1, l .inv .3)))

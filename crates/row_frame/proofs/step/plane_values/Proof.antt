@@ -1,4 +1,4 @@
--- `row_frame::step::planes` meets its contract: the first a setpoints are handed on.
+-- `row_frame::step::plane_values` meets its contract: the first a setpoints are handed on.
 use mathlib.Core.Path.{_≡_, sym}
 use mathlib.Core.Option.{Option·getD}
 use Prim.Native.Nat.{_-_, _≤_}
@@ -11,8 +11,8 @@ use Rattle.array.proofs.PlacesLaws.{fill-none}
 use Rattle.ballot.specs.Plane.{plane}
 use Rattle.row_frame.specs.Code.{putFrom}
 use Rattle.row_frame.proofs.PutLaws.{plane-told}
-use Rattle.row_frame.proofs.step.planes.Statement.{statement}
-use Rattle.row_frame.proofs.step.planes.Tie as tie
+use Rattle.row_frame.proofs.step.plane_values.Statement.{statement}
+use Rattle.row_frame.proofs.step.plane_values.Tie as tie
 
 abbrev Inv-loop : tie.InvT-loop
 Inv-loop table s mask faults cells place₀ actuators nodes a₀ place a = (a ≤ actuators) × (length place ≡ actuators) × (place ≡ fill (λ b. Option·getD (plane (putFrom s mask faults cells (getD table b 0) b) (s .nodes)) 0) a place₀)
@@ -38,8 +38,8 @@ loop-again c = let a = c .before .before .before .before .before .before .before
 returns : tie.Need-returns Inv-loop μ-loop
 returns c = stored-all _ _ _ (c .before .loop .inv .2) (omega arith)
 
-pub planes-spec : {M : Type 1} → statement M
-planes-spec =
+pub plane-values-spec : {M : Type 1} → statement M
+plane-values-spec =
     tie.close
     (tie.spec
     Inv-loop
