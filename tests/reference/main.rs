@@ -1,6 +1,9 @@
 //! An independent reference for the voting frame controller, written from document 01 alone,
 //! with a generator of test cases and a comparer. See README.md.
 
+#[allow(dead_code)]
+#[cfg(test)]
+mod calls;
 mod cases;
 mod compare;
 mod damage;

@@ -198,43 +198,53 @@ impl Reader {
     }
 }
 
-/// Refusals 1 to 5, "line by line". "In one line 2 comes before 3 (first line only), then 4,
-/// then 5."
+/// Refusals 1 to 5, "line by line".
 pub fn parse(text: &[u8]) -> Result<Plan, Refusal> {
     if text.is_empty() || text.len() > LONGEST || text.len() % LINE != 0 {
         return refuse(1, 0);
     }
-    let mut lines = text.chunks_exact(LINE).map(row);
+    parse_rows(text.chunks_exact(LINE).map(row))
+}
+
+/// Refusals 2 to 5 of the lines, of which None is not of the form. "In one line 2 comes before 3
+/// (first line only), then 4, then 5."
+pub fn parse_rows(mut lines: impl Iterator<Item = Option<Row>>) -> Result<Plan, Refusal> {
     let Some(first) = lines.next().flatten() else { return refuse(2, 1) };
     let Some(mut reader) = Reader::header(first) else { return refuse(3, 1) };
-    for (line, row) in (2..).zip(lines) {
-        let Some(row) = row else { return refuse(2, line) };
+    let mut past = 2;
+    for row in lines {
+        let Some(row) = row else { return refuse(2, past) };
         if !reader.in_order(&row) {
-            return refuse(4, line);
+            return refuse(4, past);
         }
         if !reader.within_rules(&row) {
-            return refuse(5, line);
+            return refuse(5, past);
         }
         reader.accept(&row);
+        past += 1;
     }
     let plan = reader.plan;
     if plan.initial.len() < plan.cells || plan.outputs.len() < plan.actuators {
-        return refuse(4, text.len() / LINE + 1);
+        return refuse(4, past);
     }
     Ok(plan)
 }
 
-/// The accepted plan with its recovery period. "6: no R exists. Line 0, after all of 1 to 5."
+/// The accepted plan with its recovery period.
 pub fn read(text: &[u8]) -> Result<Plan, Refusal> {
-    let mut plan = parse(text)?;
-    match plan.recovery_period() {
-        Some(period) => plan.period = period,
-        None => return refuse(6, 0),
-    }
-    Ok(plan)
+    parse(text)?.with_period()
 }
 
 impl Plan {
+    /// "6: no R exists. Line 0, after all of 1 to 5."
+    pub fn with_period(mut self) -> Result<Plan, Refusal> {
+        match self.recovery_period() {
+            Some(period) => self.period = period,
+            None => return refuse(6, 0),
+        }
+        Ok(self)
+    }
+
     /// "After the first good frame g, known cells are those voted in g."
     fn known_first(&self, frame: usize) -> Vec<bool> {
         let mut known = vec![false; self.cells];

@@ -111,7 +111,7 @@ fn sensible(r: &Random) -> u64 {
 }
 
 /// Any pattern: an edge, a neighbour of an edge or of a sensible number, a NaN, any 64 bits.
-fn strange(r: &Random) -> u64 {
+pub fn strange(r: &Random) -> u64 {
     match r.below(5) {
         0 => r.pick(&EDGES),
         1 => r.pick(&EDGES).wrapping_add(r.below(5) as u64).wrapping_sub(2),

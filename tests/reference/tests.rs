@@ -1,5 +1,6 @@
 //! Document 01's short table and plan K, refusals worked out by hand, and the premise of demand 3.
 
+use super::calls;
 use super::cases::{case, class_of, CLASSES};
 use super::frame::{fault_length, limit, message_length, plane, Memory, System};
 use super::generate::plan_text;
@@ -170,6 +171,93 @@ fn layout_of_the_fault_bytes() {
     assert_eq!(system.memories[2], Memory { counter: 9, cells: vec![0, 8] });
     assert_eq!(place, [0]);
     assert_eq!(system.counts, [3, 0, 0]);
+}
+
+/// Plan K as words: counts 3 2 2 1 1 2; tasks from word 38 on, votes from 422, outputs from 438.
+fn k_words() -> Vec<u64> {
+    let mut words = vec![0; 446];
+    words[..6].copy_from_slice(&[3, 2, 2, 1, 1, 2]);
+    (0..64).for_each(|task| words[38 + 6 * task] = 10);
+    words[44..50].copy_from_slice(&[11, 1, 1, 0, 1, 0]);
+    words[423] = 2;
+    words[438] = 1;
+    words
+}
+
+#[test]
+fn words_of_k() {
+    let mut words = vec![7; 446];
+    assert_eq!(calls::plan_read(&plan_text(&K), &mut words), 0);
+    assert_eq!(words, k_words());
+    assert_eq!(calls::plan_read(&plan_text(&without(&K, 6)), &mut words[..445]), 6);
+    assert_eq!(calls::plan_read(&plan_text(&changed(&K, 5, &[(2, 2)])), &mut words), 5 + 256 * 5);
+    assert_eq!(calls::plan_read(&plan_text(&K), &mut words[..445]), 8);
+    let plan = calls::plan_of(&k_words());
+    let (mut period, mut count, mut text) = (0, 9, vec![255; 400]);
+    assert_eq!((calls::plan_period(plan.as_ref(), &mut period), period), (0, 3));
+    assert_eq!((calls::plan_write(plan.as_ref(), &mut text, &mut count), count), (0, 399));
+    assert_eq!(text, [plan_text(&K), vec![255]].concat());
+    assert_eq!((calls::plan_write(plan.as_ref(), &mut text[..398], &mut count), count), (8, 0));
+    assert_eq!((calls::plan_write(None, &mut text[..398], &mut count), count), (7, 0));
+}
+
+/// 7: words that no accepted text has.
+#[test]
+fn words_that_are_no_plan() {
+    let with = |changes: &[(usize, u64)]| {
+        let mut words = k_words();
+        changes.iter().for_each(|&(at, value)| words[at] = value);
+        calls::plan_of(&words).is_some()
+    };
+    assert!(with(&[]) && with(&[(6, NAN), (7, u64::MAX)]));
+    assert!(with(&[(423, 3)]) && with(&[(422, 2), (423, 0)]));
+    assert!(!with(&[(423, 0)]), "no recovery period");
+    assert!(
+        !with(&[(0, 2)]) && !with(&[(0, 8)]) && !with(&[(3, 17)]) && !with(&[(4, 1 << 32 | 1)])
+    );
+    assert!(!with(&[(8, 1)]), "an initial pattern past the cells");
+    assert!(!with(&[(5, 1)]), "a task past the count");
+    assert!(!with(&[(5, 3)]), "frames that fall");
+    assert!(with(&[(5, 3), (51, 1)]), "a third task, of frame 1");
+    assert!(!with(&[(50, 11)]) && !with(&[(50, 0)]) && !with(&[(38 + 6 * 63 + 5, 1)]));
+    assert!(!with(&[(38, 16)]) && !with(&[(38, 1)]) && !with(&[(38, 20)]) && !with(&[(38, 266)]));
+    assert!(!with(&[(49, 1)]), "an unused field of a Sum");
+    assert!(!with(&[(423, 6)]) && !with(&[(423, 2 | 1 << 32)]) && !with(&[(424, 1)]));
+    assert!(!with(&[(438, 2)]) && !with(&[(439, 1)]));
+    assert!(calls::plan_of(&k_words()[..445]).is_none() && calls::plan_of(&[]).is_none());
+    assert!(calls::plan_of(&[k_words(), vec![0]].concat()).is_none());
+}
+
+/// "Order 7, 9, 8."
+#[test]
+fn order_of_refusals() {
+    let plan = k();
+    let length = fault_length(&plan);
+    let call = |plan: Option<&Plan>, good: &mut [u16], mask: u64, faults: usize| {
+        let (mut counters, mut cells, mut place) = ([9; 7], [9; 224], [9]);
+        let rows = (&mut counters, &mut cells);
+        let faults = vec![0; faults];
+        let answer =
+            calls::system_frame(plan, rows.0, rows.1, good, &[0], mask, &faults, &mut place);
+        assert!(answer == 0 || (counters, cells, place) == ([9; 7], [9; 224], [9]));
+        // Node 3 and cell 2 are past the plan's.
+        assert!((counters[3], cells[2], cells[96]) == (9, 9, 9));
+        answer
+    };
+    assert_eq!(call(None, &mut [4; 7], 8, 0), 7);
+    assert_eq!(call(Some(&plan), &mut [4; 7], 0, 0), 9);
+    assert_eq!(call(Some(&plan), &mut [3; 7], 8, 0), 9);
+    assert_eq!(call(Some(&plan), &mut [3; 7], 7, length - 1), 8);
+    assert_eq!(call(Some(&plan), &mut [4; 6], 0, length), 8);
+    assert_eq!(call(Some(&plan), &mut [4; 6], 8, length), 9);
+    let mut good = [3, 1, 0, 9, 9, 9, 9];
+    assert_eq!((call(Some(&plan), &mut good, 1, length), good), (0, [0, 2, 1, 9, 9, 9, 9]));
+    let mut count = 5;
+    assert_eq!(
+        (calls::system_working(Some(&plan), &[3, 2, 3, 9, 9, 9, 9], 1, &mut count), count),
+        (0, 1)
+    );
+    assert_eq!((calls::system_working(Some(&plan), &[3; 8], 0, &mut count), count), (8, 0));
 }
 
 fn k_run() -> Vec<u8> {

@@ -191,7 +191,7 @@ module _ (p : Plan) (s : Shape p) where
   unfolding headerOk
   header-holds = search (and-both, le-leb) depth 8
 
-  op-always : (k : ℕ) → opStorable (taskAt p k .op) ≡ true
+  pub op-always : (k : ℕ) → opStorable (taskAt p k .op) ≡ true
   unfolding opStorable
   op-always k = split (ltb k (p .«task_count»)) (λ t. s .op-storable k (ltb-true _ _ t)) (λ t. rw (s .unused k (ltb-false _ _ t)))
 

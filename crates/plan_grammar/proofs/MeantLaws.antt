@@ -10,7 +10,7 @@ use lib.ListN.{length, set, length-set, length-replicate}
 use lib.Ieee.{Float, binary64, fits}
 use lib.Ieee.Bits.{is-true, ofBits-fits, toBits-ofBits}
 use borrow.Author.Tests.{eqb-true, eqb-false, leb-true}
-use Rattle.array.proofs.TestLaws.{split, clash, and-left, and-right, and-both}
+use Rattle.array.proofs.TestLaws.{split, clash, and-left, and-right, and-both, and-false-left, and-false-right}
 use Rattle.pattern.specs.Pattern.{valueOf, patternOf}
 use Rattle.pattern.specs.Constant.{finite, finiteUnsigned}
 use Rattle.pattern.proofs.ConstantLaws.{finite-no-nan, finite-of-unsigned}
@@ -18,11 +18,16 @@ use Rattle.plan.specs.declared.Task.{Task}
 use Rattle.plan.specs.declared.Plan.{Plan}
 use Rattle.plan.specs.Limits.{mostFrames, mostCells, mostTasks, mostActuators}
 use Rattle.plan.specs.Known.{unusedTask, votePlace}
-use Rattle.plan.specs.Accepted.{constantsOk, opOk, taskOk, opStorable}
+use Rattle.plan.specs.Accepted.{headerOk, constantsOk, opOk, taskOk, opStorable, storable, wellFormed, accepted}
 use Rattle.plan_grammar.specs.Line.{lineAt, kindOf, second, third, fifth, isTask, cellKind, takeKind, windKind, voteKind, actuatorKind}
 use Rattle.plan_grammar.specs.Meant.{zeroPlan, opOf, taskOf, headerWith, initialWith, countWith, tasksWith, votedWith, actuatorsWith, withLine, planTo}
 use Rattle.plan_grammar.specs.Written.{opLine, taskLine}
 use Rattle.plan_grammar.specs.Refused.{taskZeros}
+
+-- 7 refuses the record that stands beside a refusal
+pub zero-refused : accepted zeroPlan ≡ false
+unfolding accepted wellFormed headerOk
+zero-refused = and-false-left _ (and-false-right (storable zeroPlan) refl)
 
 -- ---- a field after a line
 

@@ -43,7 +43,7 @@ value-of-pattern : (x : Float) → fits binary64 x ≡ true → valueOf (pattern
 value-of-pattern x f = ofBits-toBits binary64 x (subst T (sym f) tt)
 
 -- what is known of the line of a task
-record TaskLine (l : List ℕ) (t : Task) : Type 0 where
+pub record TaskLine (l : List ℕ) (t : Task) : Type 0 where
   pub kind : isTask (kindOf l) ≡ true
   pub no-cell : eqb (kindOf l) cellKind ≡ false
   pub zeros : taskZeros l ≡ true
@@ -87,7 +87,7 @@ op-line f g (Wind a law) e =
       stored = λ q. with-task q f g a (patternOf (law .rate)) (patternOf (law .cap)) 15 refl;
     }
 
-taskLine-is : (t : Task) → opStorable (t .op) ≡ true → TaskLine (taskLine t) t
+pub taskLine-is : (t : Task) → opStorable (t .op) ≡ true → TaskLine (taskLine t) t
 unfolding taskLine
 taskLine-is t e = op-line (t .frame) (t .target) (t .op) e
 
@@ -116,7 +116,7 @@ module _ (P : List ℕ → Type 0) where
   every-if true l f = (f refl, tt)
   every-if false l f = tt
 
-fits-small : (x : Float) → fits binary64 x ≡ true → patternOf x < 2 ^ 64
+pub fits-small : (x : Float) → fits binary64 x ≡ true → patternOf x < 2 ^ 64
 fits-small x f = pattern-bound x (subst T (sym f) tt)
 
 -- a test that is one of several joined by `&&`

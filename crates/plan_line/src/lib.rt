@@ -5,7 +5,7 @@ ghost use lib.Dec.{eqb, ltb};
 ghost use Rattle.plan.specs.Limits.{mostTasks};
 ghost use Rattle.column.specs.Row.{numbersShown};
 ghost use Rattle.plan_grammar.specs.Line.{widths, isTask};
-ghost use Rattle.plan_grammar.specs.Meant.{opOf, taskOf};
+ghost use Rattle.plan_grammar.specs.Meant.{zeroPlan, opOf, taskOf};
 ghost use Rattle.plan_grammar.specs.Refused.{isHeader, afterCells, taskInOrder, smallerVote, voteInOrder, actuatorInOrder, inOrder, taskZeros, inRange, isLast};
 ghost use Rattle.plan_line.specs.Code.{numbersIn, numbersRead};
 use numeral::Number;
@@ -209,6 +209,29 @@ pub fn in_order(h: Line, j: usize, prev: Line, l: Line) -> bool
     false
 }
 
+// The record in which no line has put its entry yet.
+pub fn zero_plan() -> Plan
+    ensures { λ r. ⌜ r ≡ zeroPlan ⌝ }
+{
+    let unused = Task {
+        frame: 0,
+        target: 0,
+        op: Op::Take(0),
+    };
+    Plan {
+        nodes: 0,
+        frames: 0,
+        cells: 0,
+        sensors: 0,
+        actuators: 0,
+        initial: [0; Plan::CELLS],
+        task_count: 0,
+        tasks: [unused; Plan::TASKS],
+        voted: [false; Plan::VOTES],
+        actuator_cell: [0; Plan::ACTUATORS],
+    }
+}
+
 fn op_of(l: Line) -> Op
     ensures { λ r. ⌜ r ≡ opOf (numbersIn l) ⌝ }
 {
@@ -245,7 +268,7 @@ pub fn task_of(l: Line) -> Task
     }
 }
 
-fn task_zeros(l: Line) -> bool
+pub fn task_zeros(l: Line) -> bool
     ensures { λ r. ⌜ r ≡ taskZeros (numbersIn l) ⌝ }
 {
     let kind = l.kind;

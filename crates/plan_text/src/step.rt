@@ -12,39 +12,15 @@ ghost use Rattle.plan_text.specs.Answers.{readAnswer, readPeriod};
 ghost use Rattle.plan_line.specs.Code.{numbersIn};
 use super::PlanRead;
 use answer::Answer;
-use plan::Op;
 use plan::Plan;
-use plan::Task;
 use plan_line::Line;
 use plan_line::LineRead;
-
-fn zero_plan() -> Plan
-    ensures { λ r. ⌜ r ≡ zeroPlan ⌝ }
-{
-    let unused = Task {
-        frame: 0,
-        target: 0,
-        op: Op::Take(0),
-    };
-    Plan {
-        nodes: 0,
-        frames: 0,
-        cells: 0,
-        sensors: 0,
-        actuators: 0,
-        initial: [0; Plan::CELLS],
-        task_count: 0,
-        tasks: [unused; Plan::TASKS],
-        voted: [false; Plan::VOTES],
-        actuator_cell: [0; Plan::ACTUATORS],
-    }
-}
 
 fn refused(answer: Answer, period: &mut usize) -> PlanRead
     ensures { λ r. ⌜ (r .answer ≡ answer) × (r .plan ≡ zeroPlan) × (now (period .exit) ≡ 0) ⌝ }
 {
     *period = 0;
-    let plan = zero_plan();
+    let plan = plan_line::zero_plan();
     PlanRead { answer, plan }
 }
 
@@ -91,7 +67,7 @@ fn read_lines(text: &[u8], h: Line, period: &mut usize) -> PlanRead
     ensures { λ r. ⌜ (r ≡ readAnswer (now (text .entry))) × (now (period .exit) ≡ readPeriod (now (text .entry))) ⌝ }
 {
     let lines = text.len() / Line::SIZE;
-    let mut plan = zero_plan();
+    let mut plan = plan_line::zero_plan();
     plan.nodes = h.second;
     plan.frames = h.third;
     plan.cells = h.fourth;

@@ -94,7 +94,7 @@ fn op_line(frame: usize, target: usize, op: Op) -> Line
     }
 }
 
-fn task_line(t: Task) -> Line
+pub fn task_line(t: Task) -> Line
     ensures { λ r. ⌜ numbersIn r ≡ taskLine t ⌝ }
 {
     let op = t.op;

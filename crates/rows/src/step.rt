@@ -25,7 +25,7 @@ pub fn word_place(r: usize, c: usize) -> usize
 
 // ---- from a record to rows, and back
 
-fn put_row(row: &mut [u64], values: [u64; Plan::CELLS])
+pub fn put_row(row: &mut [u64], values: [u64; Plan::CELLS])
     requires { ⌜ length (now row) ≡ mostCells ⌝ }
     ensures { λ _. ⌜ now (row .exit) ≡ values ⌝ }
 {

@@ -1,0 +1,4 @@
+pub mod BitsLaws
+pub mod WordsReadLaws
+pub mod WordsPutLaws
+pub mod WordsLaws

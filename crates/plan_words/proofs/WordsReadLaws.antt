@@ -1,0 +1,276 @@
+-- Laws for reading a plan from words: entries stored one by one, four votes at a time, a task of its numbers, the plan.
+use mathlib.Core.Path.{_≡_, refl, sym, ap, _∙_}
+use mathlib.Core.Bool.{Bool, true, false, not, cond, _&&_, _||_, and-false}
+use mathlib.Core.List.{List, [], _∷_}
+use mathlib.Core.Option.{Option, none, some}
+use Prim.Native.Nat.{ℕ, _+_, _*_, _/_, _%_, _^_, _≤_, _<_}
+use native.Mathlib.Omega.{arith}
+use lib.Dec.{eqb}
+use lib.Ieee.{Float}
+use lib.ListN.{length, getD, set, replicate, length-replicate}
+use lib.Seq.{ext-getD}
+use borrow.Author.Tests.{eqb-true, eq-eqb, ne-eqb, not-true, not-false}
+use Rattle.array.specs.Index.{allBelow, fill, from}
+use Rattle.array.specs.Bit.{bit}
+use Rattle.array.proofs.TestLaws.{split, clash, and-both, and-false-left, and-false-right}
+use Rattle.array.proofs.IndexLaws.{allBelow-at, allBelow-fails}
+use Rattle.array.proofs.PlacesLaws.{fill-length, fill-in, fill-more, from-length, from-at}
+use Rattle.pattern.specs.Pattern.{valueOf}
+use Rattle.plan.specs.declared.Op.{Op}
+use Rattle.plan.specs.declared.Op.the-variants.{Take, Sum, Diff, Scale, Limit, Wind}
+use Rattle.plan.specs.declared.Task.{Task}
+use Rattle.plan.specs.declared.Plan.{Plan}
+use Rattle.plan.specs.Limits.{mostFrames, mostCells, mostTasks, mostActuators}
+use Rattle.plan.specs.Known.{unusedTask, votePlace, voteFrame, voteCell}
+use Rattle.plan_grammar.specs.Line.{kindOf, isTask, takeKind, sumKind, diffKind, scaleKind, limitKind, windKind}
+use Rattle.plan_grammar.specs.Meant.{zeroPlan, opOf, taskOf}
+use Rattle.plan_grammar.specs.Refused.{taskZeros}
+use Rattle.plan_grammar.proofs.MeantLaws.{by-kind}
+use Rattle.plan_line.specs.declared.Line.{Line}
+use Rattle.plan_line.specs.Code.{numbersIn}
+use Rattle.plan_words.specs.declared.step.TaskRead.{TaskRead}
+use Rattle.plan_words.specs.declared.step.TaskRead.the-variants.{Whole, Malformed}
+use Rattle.plan_words.specs.Words.{initialAt, actuatorsAt, planSize, taskIn, voteIn, planIn, taskWords, voteWords, wordsOk, planOfWords}
+use Rattle.plan_words.specs.Code.{taskRead}
+use Rattle.plan_words.proofs.BitsLaws.{bit-of-four}
+
+or-false-left : (a b : Bool) → (a || b) ≡ false → a ≡ false
+or-false-left true b e = e
+or-false-left false b e = refl
+
+or-false-right : (a b : Bool) → (a || b) ≡ false → b ≡ false
+or-false-right true b e = absurd (clash refl e)
+or-false-right false b e = e
+
+-- ---- entries stored one by one
+
+-- a list whose every place is stored is the list of what was stored
+pub fill-is : {A : Type 0} (f : ℕ → A) (n : ℕ) (l v : List A) (d : A) → length l ≡ n → length v ≡ n → ((i : ℕ) → i < n → f i ≡ getD v i d) → fill f n l ≡ v
+fill-is f n l v d e h g =
+    let long : length (fill f n l) ≡ n = fill-length f n l ∙ e in
+    ext-getD d (fill f n l) v (long ∙ sym h) (λ i k. fill-in f n l i d (omega arith) (omega arith) ∙ g i (omega arith))
+
+-- the entries of a list from a place
+fill-from : (s : List ℕ) (at n : ℕ) (l : List ℕ) → length l ≡ n → fill (λ i. getD s (at + i) 0) n l ≡ from 0 s at n
+fill-from s at n l e =
+    fill-is (λ i. getD s (at + i) 0) n l (from 0 s at n) 0 e (from-length 0 s at n) (λ i k. sym (from-at 0 s at n i k))
+
+-- four places more are stored
+fill-four :
+    {A : Type 0} (f : ℕ → A) (n : ℕ) (l now next : List A) (a b c d : A) → now ≡ fill f n l
+    → next ≡ set (set (set (set now n a) (n + 1) b) (n + 2) c) (n + 3) d → f n ≡ a → f (n + 1) ≡ b → f (n + 2) ≡ c → f (n + 3) ≡ d → next ≡ fill f (n + 4) l
+fill-four f n l now next a b c d e g ha hb hc hd =
+    let two : n + 1 + 1 ≡ n + 2 = omega arith in
+    let three : n + 2 + 1 ≡ n + 3 = omega arith in
+    let four : n + 3 + 1 ≡ n + 4 = omega arith in
+    g
+    ∙ rw (e, fill-more f n l a ha, fill-more f (n + 1) l b hb, two, fill-more f (n + 2) l c hc, three, fill-more f (n + 3) l d hd, four)
+
+-- ---- the table of the bits of 0 to 15
+
+-- as src/step.rt has it
+abbrev fourBits : List Bool
+fourBits =
+    false ∷ false ∷ false ∷ false ∷ true ∷ false ∷ false ∷ false ∷ false ∷ true ∷ false ∷ false ∷ true ∷ true ∷ false ∷ false
+    ∷ false ∷ false ∷ true ∷ false ∷ true ∷ false ∷ true ∷ false ∷ false ∷ true ∷ true ∷ false ∷ true ∷ true ∷ true ∷ false
+    ∷ false ∷ false ∷ false ∷ true ∷ true ∷ false ∷ false ∷ true ∷ false ∷ true ∷ false ∷ true ∷ true ∷ true ∷ false ∷ true
+    ∷ false ∷ false ∷ true ∷ true ∷ true ∷ false ∷ true ∷ true ∷ false ∷ true ∷ true ∷ true ∷ true ∷ true ∷ true ∷ true ∷ []
+
+agree : (a b : Bool) → cond a b (not b) ≡ true → a ≡ b
+agree true b e = sym e
+agree false b e = sym (not-true b e)
+
+abbrev right : ℕ → Bool
+right i = cond (getD fourBits i false) (bit (i / 4) (i % 4)) (not (bit (i / 4) (i % 4)))
+
+all-right : allBelow right 64 ≡ true
+unfolding allBelow bit
+all-right = refl
+
+pub table-rule : (i : ℕ) → i < 64 → getD fourBits i false ≡ bit (i / 4) (i % 4)
+table-rule i l = agree (getD fourBits i false) (bit (i / 4) (i % 4)) (allBelow-at right 64 i l all-right)
+
+-- what a table of this rule has for a number
+module _ (table : List Bool) (rule : (i : ℕ) → i < 64 → getD table i false ≡ bit (i / 4) (i % 4)) (four : ℕ) (l : four < 16) where
+  pub table-bit : (i at : ℕ) → i < 4 → at ≡ 4 * four + i → getD table at false ≡ bit four i
+  table-bit i at k e =
+      let number : at / 4 ≡ four = omega arith in
+      let place : at % 4 ≡ i = omega arith in
+      rule at (omega arith) ∙ rw (number, place)
+
+-- ---- the votes of a frame, four at a time
+pub frame-more :
+    (word frame c first : ℕ) (q : ℕ → Bool) (l : List Bool) {now next : List Bool} → first ≡ mostCells * frame → c + 4 ≤ mostCells → now ≡ fill q (votePlace frame c) l
+    → ((x : ℕ) → x < mostCells → q (votePlace frame x) ≡ bit word x)
+    → next ≡ set (set (set (set now (first + c) (bit (word / 2 ^ c % 16) 0)) (first + c + 1) (bit (word / 2 ^ c % 16) 1)) (first + c + 2) (bit (word / 2 ^ c % 16) 2)) (first + c + 3) (bit (word / 2 ^ c % 16) 3)
+    → next ≡ fill q (votePlace frame (c + 4)) l
+frame-more word frame c first q l {now} {next} f m e h s =
+    let at : first + c ≡ votePlace frame c = omega arith in
+    let end : votePlace frame c + 4 ≡ votePlace frame (c + 4) = omega arith in
+    let none : votePlace frame c + 0 ≡ votePlace frame c = omega arith in
+    rw (← end) (fill-four q (votePlace frame c) l now next _ _ _ _ e (rw (← at) s) (rw none at (vote 0 (omega arith))) (vote 1 (omega arith)) (vote 2 (omega arith)) (vote 3 (omega arith)))
+  where
+    vote : (i : ℕ) → i < 4 → q (votePlace frame c + i) ≡ bit (word / 2 ^ c % 16) i
+    vote i k =
+        let z : votePlace frame c + i ≡ votePlace frame (c + i) = omega arith in
+        rw z (h (c + i) (omega arith)) ∙ sym (bit-of-four word c i k)
+
+-- ---- the votes of all frames
+
+abbrev pub votesIn : List ℕ → ℕ → Bool
+votesIn ws e = bit (voteIn ws (voteFrame e)) (voteCell e)
+
+pub vote-here : (ws : List ℕ) (g c : ℕ) → c < mostCells → votesIn ws (votePlace g c) ≡ bit (voteIn ws g) c
+vote-here ws g c l =
+    let frame : votePlace g c / mostCells ≡ g = omega arith in
+    let cell : votePlace g c % mostCells ≡ c = omega arith in
+    rw (frame, cell)
+
+-- one frame more
+pub frames-more :
+    (ws : List ℕ) (g : ℕ) (l : List Bool) {now next : List Bool}
+    → ((q : ℕ → Bool) (l : List Bool) → now ≡ fill q (votePlace g 0) l → ((c : ℕ) → c < mostCells → q (votePlace g c) ≡ bit (voteIn ws g) c) → next ≡ fill q (votePlace g mostCells) l)
+    → now ≡ fill (votesIn ws) (mostCells * g) l → next ≡ fill (votesIn ws) (mostCells * (g + 1)) l
+frames-more ws g l f e =
+    let start : mostCells * g ≡ votePlace g 0 = omega arith in
+    let end : votePlace g mostCells ≡ mostCells * (g + 1) = omega arith in
+    f (votesIn ws) l (e ∙ ap (λ (n : ℕ). fill (votesIn ws) n l) start) (vote-here ws g) ∙ ap (λ (n : ℕ). fill (votesIn ws) n l) end
+
+-- ---- a task of its numbers
+
+-- the six numbers from a place
+pub from-six : (s : List ℕ) (at : ℕ) → from 0 s at 6 ≡ getD s at 0 ∷ getD s (at + 1) 0 ∷ getD s (at + 2) 0 ∷ getD s (at + 3) 0 ∷ getD s (at + 4) 0 ∷ getD s (at + 5) 0 ∷ []
+unfolding from
+from-six s at = let z : at + 0 ≡ at = omega arith in rw z
+
+module _ (f c a b d : ℕ) where
+  -- the task of six numbers, if they are a task's
+  abbrev pub taskSaid : ℕ → Option Task
+  taskSaid k =
+      cond (isTask k && taskZeros (k ∷ f ∷ c ∷ a ∷ b ∷ d ∷ [])) (some (taskOf (k ∷ f ∷ c ∷ a ∷ b ∷ d ∷ []))) none
+
+  abbrev pub taskWith : Op → Option Task
+  taskWith o = some (record { frame = f; target = c; op = o })
+
+  -- by the tests of the kind, in the code's order
+  module _ {k : ℕ} {r : Option Task} where
+    pub said-limit : {x y : Float} → k ≡ limitKind → x ≡ valueOf b → y ≡ valueOf d → r ≡ taskWith (Limit a x y) → r ≡ taskSaid k
+    unfolding isTask taskZeros taskOf opOf
+    said-limit e p q h = h ∙ rw (e, p, q)
+
+    pub said-wind : {x y : Float} → k ≡ windKind → x ≡ valueOf b → y ≡ valueOf d → r ≡ taskWith (Wind a (record { rate = x; cap = y })) → r ≡ taskSaid k
+    unfolding isTask taskZeros taskOf opOf
+    said-wind e p q h = h ∙ rw (e, p, q)
+
+    pub said-sum : k ≡ sumKind → d ≡ 0 → r ≡ taskWith (Sum a b) → r ≡ taskSaid k
+    unfolding isTask taskZeros taskOf opOf
+    said-sum e z h = h ∙ rw (e, z)
+
+    pub said-diff : k ≡ diffKind → d ≡ 0 → r ≡ taskWith (Diff a b) → r ≡ taskSaid k
+    unfolding isTask taskZeros taskOf opOf
+    said-diff e z h = h ∙ rw (e, z)
+
+    pub said-scale : {x : Float} → k ≡ scaleKind → d ≡ 0 → x ≡ valueOf b → r ≡ taskWith (Scale a x) → r ≡ taskSaid k
+    unfolding isTask taskZeros taskOf opOf
+    said-scale e z p h = h ∙ rw (e, z, p)
+
+  pub said-take : (k : ℕ) {r : Option Task} → d ≡ 0 → (not (eqb k takeKind) || not (eqb b 0)) ≡ false → r ≡ taskWith (Take a) → r ≡ taskSaid k
+  unfolding isTask taskZeros taskOf opOf
+  said-take k z e h =
+      let kind : k ≡ takeKind = eqb-true k takeKind (not-false (eqb k takeKind) (or-false-left (not (eqb k takeKind)) (not (eqb b 0)) e)) in
+      let none : b ≡ 0 = eqb-true b 0 (not-false (eqb b 0) (or-false-right (not (eqb k takeKind)) (not (eqb b 0)) e)) in
+      h ∙ rw (kind, z, none)
+
+  abbrev NoSixth : ℕ → Type 0
+  NoSixth k = (k ≡ limitKind → ⊥) → (k ≡ windKind → ⊥) → none ≡ taskSaid k
+
+  pub said-no-sixth : (k : ℕ) → (d ≡ 0 → ⊥) → NoSixth k
+  unfolding isTask taskZeros
+  said-no-sixth k z =
+      let off = ne-eqb d 0 z in
+      split (isTask k)
+      (by-kind NoSixth
+      (λ p q. simp (off, and-false)) (λ p q. rw off) (λ p q. rw off) (λ p q. rw off) (λ p q. absurd (p refl)) (λ p q. absurd (q refl)) k)
+      (λ t p q. rw t)
+
+  abbrev NoTake : ℕ → Type 0
+  NoTake k =
+      (k ≡ limitKind → ⊥) → (k ≡ windKind → ⊥) → (k ≡ sumKind → ⊥) → (k ≡ diffKind → ⊥) → (k ≡ scaleKind → ⊥)
+      → (not (eqb k takeKind) || not (eqb b 0)) ≡ true → none ≡ taskSaid k
+
+  pub said-no-take : (k : ℕ) → NoTake k
+  unfolding isTask taskZeros
+  said-no-take k =
+      split (isTask k)
+      (by-kind NoTake
+      (λ l w s d c e. rw (not-true (eqb b 0) e)) (λ l w s d c e. absurd (s refl)) (λ l w s d c e. absurd (d refl)) (λ l w s d c e. absurd (c refl))
+      (λ l w s d c e. absurd (l refl)) (λ l w s d c e. absurd (w refl)) k)
+      (λ t l w s d c e. rw t)
+
+some-of : (b : Bool) (t x : Task) → some t ≡ cond b (some x) none → (b ≡ true) × (t ≡ x)
+some-of true t x e = (refl, cc)
+some-of false t x e = absurd (let z : _≡_ {A = ℕ} 0 1 = cc in omega arith)
+
+none-of : (b : Bool) (x : Task) → none ≡ cond b (some x) none → b ≡ false
+none-of true x e = absurd (let z : _≡_ {A = ℕ} 0 1 = cc in omega arith)
+none-of false x e = refl
+
+-- ---- the plan
+
+module _ (ws : List ℕ) where
+  -- what the words of task k gave
+  module _ (k : ℕ) (l : Line) (r : TaskRead) (e : numbersIn l ≡ taskIn ws k) (h : taskRead r ≡ cond (isTask (l .kind) && taskZeros (numbersIn l)) (some (taskOf (numbersIn l))) none) where
+    told : taskRead r ≡ cond (taskWords ws k) (some (taskOf (taskIn ws k))) none
+    unfolding taskWords
+    told = h ∙ ap (λ (n : List ℕ). cond (isTask (kindOf n) && taskZeros n) (some (taskOf n)) none) e
+
+    pub task-whole : {t : Task} → r ≡ Whole t → (taskWords ws k ≡ true) × (t ≡ taskOf (taskIn ws k))
+    task-whole g = some-of (taskWords ws k) _ (taskOf (taskIn ws k)) (sym (ap taskRead g) ∙ told)
+
+    pub task-malformed : r ≡ Malformed → taskWords ws k ≡ false
+    task-malformed g = none-of (taskWords ws k) (taskOf (taskIn ws k)) (sym (ap taskRead g) ∙ told)
+
+  module _ {r : Plan} (h : r ≡ zeroPlan) where
+    refused : wordsOk ws ≡ false → r ≡ planOfWords ws
+    unfolding planOfWords
+    refused e = h ∙ rw e
+
+    pub other-length : (length ws ≡ planSize → ⊥) → r ≡ planOfWords ws
+    unfolding wordsOk
+    other-length e = refused (and-false-left _ (ne-eqb (length ws) planSize e))
+
+    pub other-votes : allBelow (voteWords ws) mostFrames ≡ false → r ≡ planOfWords ws
+    unfolding wordsOk
+    other-votes e = refused (and-false-right (eqb (length ws) planSize) (and-false-right (allBelow (taskWords ws) mostTasks) e))
+
+    pub other-task : (k : ℕ) → k < mostTasks → taskWords ws k ≡ false → r ≡ planOfWords ws
+    unfolding wordsOk
+    other-task k l e =
+        refused (and-false-right (eqb (length ws) planSize) (and-false-left _ (allBelow-fails (taskWords ws) mostTasks k l e)))
+
+  pub words-ok : length ws ≡ planSize → allBelow (voteWords ws) mostFrames ≡ true → allBelow (taskWords ws) mostTasks ≡ true → wordsOk ws ≡ true
+  unfolding wordsOk
+  words-ok e v t = and-both (eq-eqb (length ws) planSize e) (and-both t v)
+
+  pub plan-read :
+      {initial cells : List ℕ} {tasks : List Task} {voted : List Bool} → length ws ≡ planSize → allBelow (voteWords ws) mostFrames ≡ true → allBelow (taskWords ws) mostTasks ≡ true
+      → initial ≡ fill (λ c. getD ws (initialAt + c) 0) mostCells (replicate mostCells 0)
+      → tasks ≡ fill (λ k. taskOf (taskIn ws k)) mostTasks (replicate mostTasks unusedTask)
+      → voted ≡ fill (votesIn ws) (mostFrames * mostCells) (replicate (mostFrames * mostCells) false)
+      → cells ≡ fill (λ i. getD ws (actuatorsAt + i) 0) mostActuators (replicate mostActuators 0)
+      → record {
+        nodes = getD ws 0 0;
+        frames = getD ws 1 0;
+        cells = getD ws 2 0;
+        sensors = getD ws 3 0;
+        actuators = getD ws 4 0;
+        initial = initial;
+        «task_count» = getD ws 5 0;
+        tasks = tasks;
+        voted = voted;
+        «actuator_cell» = cells;
+      }
+      ≡ planOfWords ws
+  unfolding planOfWords planIn
+  plan-read e v t hi ht hv ha =
+      rw (words-ok e v t, hi, ht, hv, ha, fill-from ws initialAt mostCells (replicate mostCells 0) (length-replicate {A = ℕ} mostCells 0), fill-from ws actuatorsAt mostActuators (replicate mostActuators 0) (length-replicate {A = ℕ} mostActuators 0))

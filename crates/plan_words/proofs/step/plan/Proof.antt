@@ -1,0 +1,79 @@
+-- `plan_words::step::plan` meets its contract: the first k tasks are whole, and stored.
+use mathlib.Core.Path.{_≡_, sym}
+use mathlib.Core.Bool.{true}
+use Prim.Native.Nat.{_-_, _≤_}
+use native.Mathlib.Omega.{arith}
+use Rattle.array.specs.Index.{allBelow, fill}
+use Rattle.array.proofs.TestLaws.{refused-test, passed-test}
+use Rattle.array.proofs.IndexLaws.{allBelow-none, allBelow-more}
+use Rattle.array.proofs.PlacesLaws.{fill-none}
+use Rattle.array.proofs.LoopLaws.{stored-next, stored-all, all-passed}
+use Rattle.plan.specs.Limits.{mostTasks}
+use Rattle.plan_grammar.specs.Meant.{taskOf}
+use Rattle.plan_words.specs.Words.{taskIn, taskWords}
+use Rattle.plan_words.proofs.WordsReadLaws.{task-whole, task-malformed, other-length, other-votes, other-task, plan-read}
+use borrow.Author.Needs.{needs}
+use Rattle.plan_words.proofs.step.plan.Statement.{statement}
+use Rattle.plan_words.proofs.step.plan.Tie as tie
+
+abbrev Inv-loop : tie.InvT-loop
+Inv-loop words initial voted actuator-cell tasks₀ k₀ tasks k = (k ≤ mostTasks) × (allBelow (taskWords words) k ≡ true) × (tasks ≡ fill (λ j. taskOf (taskIn words j)) k tasks₀)
+
+abbrev μ-loop : tie.MeasureT-loop
+μ-loop words initial voted actuator-cell tasks₀ k₀ tasks k = mostTasks - k
+
+returns : tie.Need-returns Inv-loop μ-loop
+returns c = other-length (c .before .before .before .args .words .now) (c .zero-plan .ensures) (c .before .if1 .taken)
+
+returns-2 : tie.Need-returns-2 Inv-loop μ-loop
+returns-2 c = other-votes (c .before .before .before .before .before .args .words .now) (c .zero-plan2 .ensures) (refused-test (c .before .before .votes-ok .ensures) (c .before .if2 .taken))
+
+loop-holds : tie.Need-loop-holds Inv-loop μ-loop
+loop-holds c = (search needs, allBelow-none _, sym (fill-none _ _))
+
+returns-3 : tie.Need-returns-3 Inv-loop μ-loop
+returns-3 c = other-task (c .before .before .before .before .before .before .before .before .before .before .before .before .before .before .before .before .before .args .words .now) (c .zero-plan3 .ensures) (c .before .before .before .before .before .before .loop .k) (c .before .before .before .before .before .loop-test .taken) (task-malformed (c .before .before .before .before .before .before .before .before .before .before .before .before .before .before .before .before .before .args .words .now) (c .before .before .before .before .before .before .loop .k) (c .before .before .before .before .task .result) (c .before .before .before .task-of .result) (c .before .before .before .before .task .ensures) (c .before .before .before .task-of .ensures) (c .before .enum-told .given .1))
+
+loop-again : tie.Need-loop-again Inv-loop μ-loop
+loop-again c =
+    let read = task-whole (c .before .before .before .before .before .before .before .before .before .before .before .before .before .before .before .before .before .args .words .now) (c .before .before .before .before .before .before .loop .k) (c .before .before .before .before .task .result) (c .before .before .before .task-of .result) (c .before .before .before .before .task .ensures) (c .before .before .before .task-of .ensures) (c .before .t .given .1) in
+    (search needs, allBelow-more _ (c .before .before .before .before .before .before .loop .k) (c .before .before .before .before .before .before .loop .inv .1) (read .0), stored-next _ _ _ (c .before .before .before .before .before .before .loop .inv .2) (read .1))
+
+returns-4 : tie.Need-returns-4 Inv-loop μ-loop
+returns-4 c =
+    plan-read (c .before .before .before .before .before .before .before .before .before .before .before .before .before .before .before .before .before .before .args .words .now) (c .before .before .before .before .before .before .before .before .before .before .before .before .before .before .before .before .if1 .left) (passed-test (c .before .before .before .before .before .before .before .before .before .before .before .before .before .before .before .votes-ok .ensures) (c .before .before .before .before .before .before .before .before .before .before .before .before .before .before .if2 .left)) (all-passed _ (c .before .before .before .before .before .before .before .loop .inv .1) (omega arith))
+    (c .before .before .before .before .before .before .before .before .before .before .before .before .initial-in .ensures) (stored-all _ _ _ (c .before .before .before .before .before .before .before .loop .inv .2) (omega arith)) (c .before .before .before .before .before .before .before .before .before .before .votes-in .ensures) (c .before .before .before .before .before .before .before .before .actuators-in .ensures)
+
+pub plan-spec : {M : Type 1} → statement M
+plan-spec =
+    tie.close
+    (tie.spec
+    Inv-loop
+    μ-loop
+    (λ c κs. search needs)
+    returns
+    (λ c κs. search needs)
+    (λ c κs. search needs)
+    returns-2
+    (λ c κs. search needs)
+    (λ c κs. search needs)
+    (λ c κs. search needs)
+    loop-holds
+    (λ c κs. search needs)
+    (λ c κs. search needs)
+    (λ c. search needs)
+    (λ c. search needs)
+    (λ c κs. search needs)
+    returns-3
+    (λ c. search needs)
+    (λ c. search needs)
+    (λ c. search needs)
+    (λ c. search needs)
+    loop-again
+    (λ c. search needs)
+    (λ c. search needs)
+    (λ c. search needs)
+    (λ c. search needs)
+    (λ c. search needs)
+    (λ c. search needs)
+    returns-4)

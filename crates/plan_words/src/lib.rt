@@ -1,0 +1,2 @@
+// A plan as 64-bit words.
+pub mod step;

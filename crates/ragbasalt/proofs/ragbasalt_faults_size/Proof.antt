@@ -1,0 +1,39 @@
+-- `ragbasalt_faults_size` meets its contract: a result for each way out.
+use borrow.Author.Needs.{needs}
+use mathlib.Core.Path.{ap, _∙_}
+use Rattle.plan.specs.Sizes.{sizesOf}
+use Rattle.system.specs.Fault.{faultsSize}
+use Rattle.frame.proofs.CallLaws.{small-numbers}
+use Rattle.plan_period.proofs.AnswerLaws.{accepted-of-period, refused-of-period}
+use Rattle.ragbasalt.proofs.CallLaws.{size-none, size-given}
+use Rattle.ragbasalt.proofs.ragbasalt_faults_size.Statement.{statement}
+use Rattle.ragbasalt.proofs.ragbasalt_faults_size.Tie as tie
+
+plan-requires : tie.Need-plan-requires
+plan-requires c κs = search needs
+
+accepted-period-requires : tie.Need-accepted-period-requires
+accepted-period-requires c κs = search needs
+
+returns : tie.Need-returns
+returns c = size-none _ (c .before .before .plan .ensures) (λ p. faultsSize (sizesOf p)) (refused-of-period _ (c .before .accepted-period .ensures) (c .if1 .taken))
+
+sizes-with-requires : tie.Need-sizes-with-requires
+sizes-with-requires c κs = search needs
+
+size-requires : tie.Need-size-requires
+size-requires c κs = small-numbers _ (accepted-of-period _ (c .before .before .accepted-period .ensures) (c .before .if1 .left)) (c .sizes-with .ensures)
+
+returns-2 : tie.Need-returns-2
+returns-2 c = size-given _ (c .before .before .before .before .plan .ensures) (λ p. faultsSize (sizesOf p)) (accepted-of-period _ (c .before .before .before .accepted-period .ensures) (c .before .before .if1 .left)) (c .size .ensures ∙ ap faultsSize (c .before .sizes-with .ensures))
+
+pub ragbasalt-faults-size-spec : {M : Type 1} → statement M
+ragbasalt-faults-size-spec =
+    tie.close
+    (tie.spec
+    plan-requires
+    accepted-period-requires
+    returns
+    sizes-with-requires
+    size-requires
+    returns-2)

@@ -1,0 +1,28 @@
+-- `ragbasalt_text_size` meets its contract: a result for each way out.
+use borrow.Author.Needs.{needs}
+use lib.ListN.{length}
+use Rattle.plan_grammar.specs.Written.{planText}
+use Rattle.plan_period.proofs.AnswerLaws.{accepted-of-period, refused-of-period}
+use Rattle.ragbasalt.proofs.CallLaws.{size-none, size-given}
+use Rattle.ragbasalt.proofs.ragbasalt_text_size.Statement.{statement}
+use Rattle.ragbasalt.proofs.ragbasalt_text_size.Tie as tie
+
+plan-requires : tie.Need-plan-requires
+plan-requires c κs = search needs
+
+accepted-period-requires : tie.Need-accepted-period-requires
+accepted-period-requires c κs = search needs
+
+returns : tie.Need-returns
+returns c = size-none _ (c .before .before .plan .ensures) (λ p. length (planText p)) (refused-of-period _ (c .before .accepted-period .ensures) (c .if1 .taken))
+
+text-size-requires : tie.Need-text-size-requires
+text-size-requires c κs = accepted-of-period _ (c .before .accepted-period .ensures) (c .if1 .left)
+
+returns-2 : tie.Need-returns-2
+returns-2 c = size-given _ (c .before .before .before .plan .ensures) (λ p. length (planText p)) (accepted-of-period _ (c .before .before .accepted-period .ensures) (c .before .if1 .left)) (c .text-size .ensures)
+
+pub ragbasalt-text-size-spec : {M : Type 1} → statement M
+ragbasalt-text-size-spec =
+    tie.close
+    (tie.spec plan-requires accepted-period-requires returns text-size-requires returns-2)

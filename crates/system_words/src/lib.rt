@@ -1,0 +1,2 @@
+// Answers, memories and system records as numbers and words.
+pub mod step;

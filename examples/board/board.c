@@ -1,0 +1,178 @@
+/* A controller board in C: the n nodes of a plan in one process, each with its own memory, exchanging messages through mailboxes.
+ *
+ * It reads plan.txt and run.txt in the current folder, as the program `run` does, and prints per frame the frame number (width 8) and the setpoints that the
+ * plane hands on (20 each): the listing without its two counts, which no single board can know. The plane is the loop `plane` below; on a press the drives do it.
+ * A refusal goes to the error output, with exit status 1. */
+#include <inttypes.h>
+#include <stdio.h>
+#include <stdlib.h>
+#include <string.h>
+
+#include "ragbasalt.h"
+
+static ragbasalt_plan plan;
+static size_t nodes, cells, sensor_count, actuators, message_bytes;
+
+/* What each node has on its board. */
+static struct {
+    ragbasalt_memory memory;
+    uint8_t message[RAGBASALT_MESSAGE_BYTES];
+    uint8_t mailbox[RAGBASALT_MAILBOX_BYTES];
+    uint64_t setpoints[RAGBASALT_ACTUATORS];
+} board[RAGBASALT_NODES];
+
+static void stop(const char *what, uint64_t number, uint64_t line)
+{
+    fprintf(stderr, "board: %s: refused with %" PRIu64 ", line %" PRIu64 "\n", what, number, line);
+    exit(EXIT_FAILURE);
+}
+
+/* Every call of the library goes through here. */
+static void done(const char *call, uint64_t answer)
+{
+    if (answer != RAGBASALT_DONE)
+        stop(call, ragbasalt_number_of(answer), ragbasalt_line_of(answer));
+}
+
+/* The bytes of a file, at most `room` of them; a file that can't be opened counts as empty. */
+static size_t contents(const char *name, uint8_t *bytes, size_t room)
+{
+    FILE *file = fopen(name, "rb");
+    size_t count;
+    if (file == NULL)
+        return 0;
+    count = fread(bytes, 1, room, file);
+    fclose(file);
+    return count;
+}
+
+/* The number of a column: blanks, then digits without leading zeros. */
+static int column(const char *text, size_t width, uint64_t *value)
+{
+    size_t at = 0, first;
+    while (at < width && text[at] == ' ')
+        at++;
+    first = at;
+    *value = 0;
+    for (; at < width; at++) {
+        unsigned digit = (unsigned)(unsigned char)text[at] - '0';
+        if (digit > 9 || *value > (UINT64_MAX - digit) / 10)
+            return 0;
+        *value = 10 * *value + digit;
+    }
+    return first < width && (text[first] != '0' || first + 1 == width);
+}
+
+/* The next run line: mask, fill and the sensors. 0 at the end of the file. */
+static int run_line(FILE *run, uint64_t frame, uint64_t *mask, uint64_t *fill, uint64_t *sensors)
+{
+    char line[8 + 20 * RAGBASALT_SENSORS + 1];
+    size_t length = 8 + 20 * sensor_count + 1, s, got = fread(line, 1, length, run);
+    int right = got == length && column(line, 4, mask) && column(line + 4, 4, fill);
+    if (got == 0)
+        return 0;
+    for (s = 0; right && s < sensor_count; s++)
+        right = column(line + 8 + 20 * s, 20, &sensors[s]);
+    if (!right || line[length - 1] != '\n' || *mask >> nodes != 0 || *fill > 255 || frame >= 100000)
+        stop("run.txt", 10, frame + 1);
+    return 1;
+}
+
+/* Power-on of a good node. */
+static void power_on(void)
+{
+    size_t i;
+    for (i = 0; i < nodes; i++)
+        done("power_on", ragbasalt_power_on(&plan, &board[i].memory));
+}
+
+/* A frame of a good node up to its broadcast. */
+static void compute(size_t i, const uint64_t *sensors)
+{
+    done("compute", ragbasalt_compute(&plan, &board[i].memory, sensors, sensor_count));
+    done("message", ragbasalt_message(&plan, &board[i].memory, board[i].message, message_bytes));
+}
+
+/* What a good node does with its mailbox. */
+static void close_frame(size_t i)
+{
+    done("vote", ragbasalt_vote(&plan, &board[i].memory, board[i].mailbox, nodes * message_bytes));
+    done("setpoints", ragbasalt_setpoints(&plan, &board[i].memory, board[i].setpoints, actuators));
+}
+
+/* A bad node: its message to everybody, its setpoints, and its memory after the frame are bytes `fill`. */
+static void spoil(size_t i, uint64_t fill)
+{
+    uint64_t pattern = fill * UINT64_C(0x0101010101010101);
+    size_t c, a;
+    memset(board[i].message, (int)fill, message_bytes);
+    board[i].memory.counter = (uint16_t)pattern;
+    for (c = 0; c < cells; c++)
+        board[i].memory.cells[c] = pattern;
+    for (a = 0; a < actuators; a++)
+        board[i].setpoints[a] = pattern;
+}
+
+/* The bus: every node's message in the bin of its sender in every mailbox. */
+static void exchange(void)
+{
+    size_t from, to;
+    for (from = 0; from < nodes; from++)
+        for (to = 0; to < nodes; to++)
+            memcpy(board[to].mailbox + from * message_bytes, board[from].message, message_bytes);
+}
+
+/* The plane, no part of the library: the setpoint that most nodes put out; of tied ones, that of the lowest node. */
+static uint64_t plane(size_t a)
+{
+    uint64_t value = 0;
+    size_t most = 0, i, j;
+    for (i = 0; i < nodes; i++) {
+        size_t holders = 0;
+        for (j = 0; j < nodes; j++)
+            holders += board[j].setpoints[a] == board[i].setpoints[a];
+        if (holders > most) {
+            most = holders;
+            value = board[i].setpoints[a];
+        }
+    }
+    return value;
+}
+
+int main(void)
+{
+    static uint8_t text[RAGBASALT_TEXT_BYTES + 1];
+    uint64_t frame, mask, fill, sensors[RAGBASALT_SENSORS];
+    size_t i, a;
+    FILE *run;
+
+    if (ragbasalt_version() != RAGBASALT_VERSION) {
+        fprintf(stderr, "board: the header is not that of the archive\n");
+        return EXIT_FAILURE;
+    }
+    done("plan.txt", ragbasalt_read(text, contents("plan.txt", text, sizeof text), &plan));
+    nodes = (size_t)plan.words[RAGBASALT_AT_NODES];
+    cells = (size_t)plan.words[RAGBASALT_AT_CELLS];
+    sensor_count = (size_t)plan.words[RAGBASALT_AT_SENSORS];
+    actuators = (size_t)plan.words[RAGBASALT_AT_ACTUATORS];
+    message_bytes = ragbasalt_message_length(&plan);
+    power_on();
+
+    run = fopen("run.txt", "rb");
+    for (frame = 0; run != NULL && run_line(run, frame, &mask, &fill, sensors); frame++) {
+        for (i = 0; i < nodes; i++)
+            if (mask >> i & 1)
+                spoil(i, fill);
+            else
+                compute(i, sensors);
+        exchange();
+        for (i = 0; i < nodes; i++)
+            if (!(mask >> i & 1))
+                close_frame(i);
+        printf("%8" PRIu64, frame);
+        for (a = 0; a < actuators; a++)
+            printf("%20" PRIu64, plane(a));
+        putchar('\n');
+    }
+    return EXIT_SUCCESS;
+}

@@ -1,0 +1,387 @@
+//! Arguments of calls: plans as words and damages to them, memories, systems, mailboxes, masks and
+//! fault bytes, with or without something wrong.
+
+use super::both::{Memory, Rows, Words};
+use super::calls::{self, memory_of};
+use super::calls::{CELLS, COUNTS, FRAMES, NODES, OUTPUTS_AT, PLAN_WORDS, TASKS_AT, VOTES_AT};
+use super::frame::{self, fault_length, message_length};
+use super::generate::{longest, plan_text, recovering, slow};
+use super::plan::{read, Plan, Row};
+use super::random::{strange, Random, Values};
+
+const MINUS: u64 = 1 << 63;
+const INFINITY: u64 = 0x7FF << 52;
+
+/// The rows of an accepted plan.
+pub fn plan_rows(r: &Random, values: &Values) -> Vec<Row> {
+    match r.below(24) {
+        0 => slow(r, values),
+        1 => longest(r, values),
+        _ => recovering(r, values),
+    }
+}
+
+pub fn accepted(rows: &[Row]) -> (Plan, Words) {
+    let plan = read(&plan_text(rows)).expect("an accepted plan");
+    let words = calls::words_of(&plan);
+    (plan.clone(), Words { words, plan: Some(plan) })
+}
+
+/// An index or count near `value`, or right in its low bits only.
+fn other_number(r: &Random, value: u64) -> u64 {
+    let near = [0, value.wrapping_add(1), value.wrapping_sub(1)];
+    let far = [value.wrapping_add(256), value.wrapping_add(1 << 32), MINUS | value, u64::MAX];
+    r.pick(&[r.pick(&near), r.pick(&far), r.below(70) as u64])
+}
+
+/// A constant against the rules, or another one.
+fn other_constant(r: &Random) -> u64 {
+    let edges = [INFINITY, MINUS | INFINITY, INFINITY + 1, u64::MAX, MINUS, 0, 1];
+    r.pick(&[r.pick(&edges), strange(r)])
+}
+
+/// Changes words of an accepted plan, or their number. What comes out may be accepted too.
+pub fn damaged(r: &Random, plan: &Plan, right: &[u64]) -> Words {
+    let mut words = right.to_vec();
+    damage(r, plan, &mut words);
+    while r.one_in(4) && words.len() == PLAN_WORDS {
+        damage(r, plan, &mut words);
+    }
+    Words::new(words)
+}
+
+fn damage(r: &Random, plan: &Plan, words: &mut Vec<u64>) {
+    let tasks = words[COUNTS - 1].min(64) as usize;
+    // A used task, or any.
+    let task = match tasks > 0 && !r.one_in(4) {
+        true => r.below(tasks),
+        false => r.below(64),
+    };
+    let at = TASKS_AT + 6 * task;
+    match r.below(14) {
+        0 | 1 => {
+            let past = PLAN_WORDS + r.between(1, 10);
+            let lengths = [0, 1, 445, 447, 447, past, 2 * PLAN_WORDS, r.below(PLAN_WORDS)];
+            words.resize(r.pick(&lengths), r.pick(&[0, 0, 1]));
+        }
+        2 => {
+            let count = r.below(COUNTS);
+            let limits = [2, 8, 0, 17, 33, 9, 64, 65];
+            words[count] = r.pick(&[other_number(r, words[count]), r.pick(&limits)]);
+        }
+        3 => words[COUNTS + r.below(CELLS)] = strange(r),
+        4 => {
+            let kinds = [0, 1, 9, 16, 20, 30, 266, (1 << 32) + 10, MINUS | 10, u64::MAX];
+            words[at] = r.pick(&[r.pick(&kinds), r.between(10, 15) as u64]);
+        }
+        5 => {
+            let field = at + r.between(1, 3);
+            let sizes = [plan.frames, plan.cells, plan.sensors].map(|size| size as u64);
+            words[field] = r.pick(&[other_number(r, words[field]), r.pick(&sizes)]);
+        }
+        6 | 7 => match r.below(4) {
+            0 => words.swap(at + 4, at + 5),
+            1 => words[at + 5] ^= MINUS,
+            _ => words[at + r.between(4, 5)] = other_constant(r),
+        },
+        8 if tasks < 64 => {
+            let unused = TASKS_AT + 6 * r.between(tasks, 63);
+            words[unused + r.below(6)] = r.pick(&[1, 11, MINUS, 0]);
+        }
+        8 | 9 => {
+            let cell = r.pick(&[plan.cells, 31, 32, 63, r.below(64)]).min(63);
+            let frame = r.pick(&[plan.frames, r.below(FRAMES), 15]).min(15);
+            words[VOTES_AT + frame] ^= 1 << cell;
+        }
+        10 => {
+            let frame = VOTES_AT + r.below(plan.frames);
+            words[frame] = r.pick(&[0, words[frame] ^ 1 << r.below(plan.cells)]);
+        }
+        11 => {
+            let actuator = OUTPUTS_AT + r.below(8);
+            words[actuator] = r.pick(&[other_number(r, words[actuator]), plan.cells as u64]);
+        }
+        12 => {
+            let other = TASKS_AT + 6 * r.below(tasks.max(1));
+            (0..6).for_each(|word| words.swap(at + word, other + word));
+        }
+        _ => {
+            let word = r.below(PLAN_WORDS);
+            words[word] = r.pick(&[other_number(r, words[word]), words[word] ^ 1 << r.below(64)]);
+        }
+    }
+}
+
+pub fn wrong_length(r: &Random, right: usize) -> usize {
+    r.pick(&[0, right + 1, right.saturating_sub(1), right + r.between(2, 9), right / 2, 2 * right])
+}
+
+/// Draws what a call takes beside its plan, of the lengths that `plan` asks for; one in `wrong`
+/// lengths and masks is wrong, none where it is 0.
+pub struct Draw<'a> {
+    pub r: &'a Random,
+    pub values: &'a Values,
+    pub plan: &'a Plan,
+    pub wrong: usize,
+}
+
+impl Draw<'_> {
+    fn is_wrong(&self) -> bool {
+        self.wrong > 0 && self.r.one_in(self.wrong)
+    }
+
+    fn length(&self, right: usize) -> usize {
+        if self.is_wrong() {
+            wrong_length(self.r, right)
+        } else {
+            right
+        }
+    }
+
+    fn pattern(&self) -> u64 {
+        if self.r.one_in(6) {
+            strange(self.r)
+        } else {
+            self.values.any(self.r)
+        }
+    }
+
+    fn patterns(&self, right: usize) -> Vec<u64> {
+        (0..self.length(right)).map(|_| self.pattern()).collect()
+    }
+
+    fn counter(&self) -> u16 {
+        let (r, frames) = (self.r, self.plan.frames as u16);
+        let below = r.below(self.plan.frames) as u16;
+        r.pick(&[below, below, below, frames, frames + 1, 65_535, r.next() as u16])
+    }
+
+    pub fn memory(&self) -> Memory {
+        Memory { counter: self.counter(), cells: self.patterns(CELLS) }
+    }
+
+    pub fn sensors(&self) -> Vec<u64> {
+        self.patterns(self.plan.sensors)
+    }
+
+    /// A place for setpoints, with something in it.
+    pub fn setpoints(&self) -> Vec<u64> {
+        self.patterns(self.plan.actuators)
+    }
+
+    /// A place for a message, with something in it.
+    pub fn message(&self) -> Vec<u8> {
+        vec![self.r.next() as u8; self.length(message_length(self.plan))]
+    }
+
+    /// A place for the text, too short where something is to be wrong.
+    pub fn text(&self, words: &Words) -> Vec<u8> {
+        let right = calls::text_size(words.plan.as_ref());
+        let short = [0, right.saturating_sub(1), self.r.below(right + 1)];
+        let wide = [right, right, right + 1, right + self.r.below(200)];
+        let length = if self.r.one_in(3) { self.r.pick(&short) } else { self.r.pick(&wide) };
+        vec![self.r.next() as u8; length]
+    }
+
+    pub fn mask(&self) -> u64 {
+        let (r, nodes) = (self.r, self.plan.nodes);
+        let all = (1 << nodes) - 1;
+        if self.is_wrong() {
+            return r.pick(&[1 << nodes, all + 1 + r.below(200) as u64, 1 << 32, MINUS, u64::MAX]);
+        }
+        match r.below(6) {
+            0 | 1 => 0,
+            2 => r.next() & all,
+            3 => all ^ 1 << r.below(nodes),
+            4 => r.next() & r.next() & all,
+            _ => 1 << r.below(nodes),
+        }
+    }
+
+    /// Good counts: mostly R; past the nodes anything.
+    fn good(&self) -> Vec<u16> {
+        let (r, period) = (self.r, self.plan.period);
+        let count = |node: usize| match r.below(4) {
+            _ if node >= self.plan.nodes => r.next() as u16,
+            _ if self.wrong > 0 && r.one_in(7 * self.wrong) => {
+                r.pick(&[period + 1, 65_535, period + 256]) as u16
+            }
+            0 => r.below(period + 1) as u16,
+            1 => r.pick(&[0, period - 1]) as u16,
+            _ => period as u16,
+        };
+        (0..self.length(NODES)).map(count).collect()
+    }
+
+    /// A system with any memories, many of them this one, or this one but for a bit.
+    pub fn rows(&self, memory: &Memory) -> Rows {
+        let (r, plan) = (self.r, self.plan);
+        let (mut counters, mut cells) = (Vec::new(), Vec::new());
+        for node in 0..NODES {
+            let mut own = Memory { counter: memory.counter, cells: memory.cells.clone() };
+            own.cells.resize(CELLS, 0);
+            match r.below(8) {
+                0 => own.counter = self.counter(),
+                1 => own.cells[r.below(plan.cells)] ^= 1 << r.pick(&[63, 63, r.below(64)]),
+                2 => own.cells[r.below(plan.cells)] = self.pattern(),
+                3 => own.cells[plan.cells..].iter_mut().for_each(|cell| *cell = !*cell),
+                4 => own = Memory { counter: r.next() as u16, cells: self.patterns(CELLS) },
+                _ if node >= plan.nodes => own.counter = r.next() as u16,
+                _ => {}
+            }
+            own.cells.resize(CELLS, 0);
+            counters.push(own.counter);
+            cells.extend(own.cells);
+        }
+        counters.resize(self.length(NODES), 1);
+        cells.resize(self.length(NODES * CELLS), 2);
+        Rows { counters, cells, good: self.good() }
+    }
+
+    /// A mailbox: any bytes; bins mostly equal to the message of a memory; or bins in which each
+    /// field is shared by no one, by half of them, by just more than half, or by all.
+    pub fn mailbox(&self, memory: &Memory) -> Vec<u8> {
+        let (r, plan) = (self.r, self.plan);
+        let bin = message_length(plan);
+        let mut mailbox = vec![0; plan.nodes * bin];
+        match r.below(8) {
+            0 => mailbox.iter_mut().for_each(|byte| *byte = r.next() as u8),
+            1 => mailbox.fill(r.pick(&[0, 255, r.next() as u8])),
+            2 | 3 => {
+                let message = self.message_of(memory);
+                for bytes in mailbox.chunks_exact_mut(bin) {
+                    bytes.copy_from_slice(&message);
+                    self.spoil(bytes);
+                }
+            }
+            _ => {
+                for field in 0..1 + plan.cells {
+                    self.field(&mut mailbox, field);
+                }
+            }
+        }
+        mailbox.resize(self.length(plan.nodes * bin), 0);
+        mailbox
+    }
+
+    /// What the memory sends, or all of its cells.
+    fn message_of(&self, memory: &Memory) -> Vec<u8> {
+        let mut bytes = vec![0; message_length(self.plan)];
+        let mut cells = memory.cells.clone();
+        cells.resize(CELLS, 0);
+        let own = memory_of(self.plan, memory.counter, &cells);
+        own.message(self.plan, &mut bytes);
+        if self.r.one_in(3) {
+            put_fields(&mut bytes, own.counter, own.cells.iter().copied());
+        }
+        bytes
+    }
+
+    /// Leaves a message as it is, or changes its counter, a cell, a bit, or all of it.
+    fn spoil(&self, message: &mut [u8]) {
+        let r = self.r;
+        let cell = 2 + 8 * r.below(self.plan.cells);
+        match r.below(10) {
+            0 => message[..2].copy_from_slice(&self.counter().to_be_bytes()),
+            1 => message[cell..cell + 8].copy_from_slice(&self.pattern().to_be_bytes()),
+            2 => message[r.below(message.len())] ^= 1 << r.below(8),
+            3 => message.fill(0),
+            4 => message.iter_mut().for_each(|byte| *byte = r.next() as u8),
+            _ => {}
+        }
+    }
+
+    /// Field 0 of the bins is the counter, field 1 + c cell c: some bins hold one value, the others
+    /// another one or each its own.
+    fn field(&self, mailbox: &mut [u8], field: usize) {
+        let (r, nodes) = (self.r, self.plan.nodes);
+        let bin = message_length(self.plan);
+        let (start, width) = if field == 0 { (0, 2) } else { (8 * field - 6, 8) };
+        let value = || match field {
+            0 => u64::from(self.counter()) << 48,
+            _ => self.pattern(),
+        };
+        let [shared, second] = [value(), if r.one_in(4) { value() ^ MINUS } else { value() }];
+        let second = if field > 0 && r.one_in(4) { shared ^ MINUS } else { second };
+        let mut holders = r.pick(&[0, nodes / 2, nodes / 2, nodes / 2 + 1, nodes / 2 + 1, nodes]);
+        let own = r.one_in(3);
+        for node in shuffled(r, nodes) {
+            let value = match holders {
+                0 if own => value(),
+                0 => second,
+                _ => shared,
+            };
+            holders = holders.saturating_sub(1);
+            let at = node * bin + start;
+            mailbox[at..at + width].copy_from_slice(&value.to_be_bytes()[..width]);
+        }
+    }
+
+    /// Fault bytes: any bytes; one byte; fields of a few patterns; or messages that are nearly
+    /// those of a good node, another one for each receiver, and setpoints that are nearly its own.
+    pub fn faults(&self, rows: &Rows, sensors: &[u64]) -> Vec<u8> {
+        let (r, plan) = (self.r, self.plan);
+        let mut faults = vec![0; fault_length(plan)];
+        match r.below(8) {
+            0 => faults.iter_mut().for_each(|byte| *byte = r.next() as u8),
+            1 => faults.fill(r.pick(&[0, 255, r.next() as u8])),
+            2 | 3 => self.fault_fields(&mut faults, None),
+            _ => {
+                let truth = self.truth(rows, sensors);
+                self.fault_fields(&mut faults, truth.as_ref());
+            }
+        }
+        faults.resize(self.length(fault_length(plan)), 0);
+        faults
+    }
+
+    /// Some node's memory after it has computed.
+    fn truth(&self, rows: &Rows, sensors: &[u64]) -> Option<frame::Memory> {
+        let (plan, node) = (self.plan, self.r.below(self.plan.nodes));
+        let cells = rows.cells.get(CELLS * node..CELLS * (node + 1))?;
+        let mut memory = memory_of(plan, *rows.counters.get(node)?, cells);
+        if sensors.len() != plan.sensors {
+            return None;
+        }
+        memory.compute(plan, sensors);
+        Some(memory)
+    }
+
+    fn fault_fields(&self, faults: &mut [u8], truth: Option<&frame::Memory>) {
+        let (r, plan) = (self.r, self.plan);
+        let length = message_length(plan);
+        let cells = || (0..plan.cells).map(|_| self.pattern());
+        for bytes in faults.chunks_exact_mut(fault_length(plan) / plan.nodes) {
+            let (messages, setpoints) = bytes.split_at_mut((plan.nodes + 1) * length);
+            for message in messages.chunks_exact_mut(length) {
+                match truth {
+                    Some(memory) => memory.message(plan, message),
+                    None => put_fields(message, self.counter(), cells()),
+                }
+                self.spoil(message);
+            }
+            if r.one_in(3) {
+                put_fields(&mut messages[..length], self.counter(), cells());
+            }
+            for (actuator, setpoint) in setpoints.chunks_exact_mut(8).enumerate() {
+                let true_one = truth.filter(|_| r.one_in(2));
+                let value = true_one.map(|memory| memory.setpoint(plan, actuator));
+                let value = value.unwrap_or_else(|| self.pattern());
+                setpoint.copy_from_slice(&value.to_be_bytes());
+            }
+        }
+    }
+}
+
+fn put_fields(message: &mut [u8], counter: u16, cells: impl Iterator<Item = u64>) {
+    message[..2].copy_from_slice(&counter.to_be_bytes());
+    for (place, pattern) in message[2..].chunks_exact_mut(8).zip(cells) {
+        place.copy_from_slice(&pattern.to_be_bytes());
+    }
+}
+
+fn shuffled(r: &Random, count: usize) -> Vec<usize> {
+    let mut order: Vec<_> = (0..count).collect();
+    (1..count).for_each(|at| order.swap(at, r.below(at + 1)));
+    order
+}

@@ -1,0 +1,180 @@
+//! Every call of libragbasalt.a beside the separate Rust program of tests/reference. See README.md.
+
+mod both;
+mod broken;
+#[path = "../reference/calls.rs"]
+mod calls;
+mod classes;
+#[allow(dead_code)]
+#[path = "../reference/damage.rs"]
+mod damage;
+mod draw;
+#[path = "../reference/frame.rs"]
+mod frame;
+#[allow(dead_code)]
+#[path = "../reference/generate.rs"]
+mod generate;
+mod lend;
+mod library;
+#[allow(dead_code)]
+#[path = "../reference/listing.rs"]
+mod listing;
+#[allow(dead_code)]
+#[path = "../reference/plan.rs"]
+mod plan;
+#[path = "../reference/random.rs"]
+mod random;
+
+use std::process::ExitCode;
+
+use both::{Both, Totals, CALLS};
+use classes::{case, class_of};
+use random::Random;
+
+const USAGE: &str = "usage:
+  calls COUNT [FIRST_SEED]          compare cases until at least COUNT calls were made
+  calls --bare COUNT [FIRST_SEED]   the same with slices that have no guards, for valgrind
+  calls --seed SEED                 compare one case
+  calls --broken TESTS LIBRARY WORK build broken references, copied from the folder TESTS to WORK,
+                                    with libragbasalt.a in the folder LIBRARY, and compare";
+
+const WORKERS: u64 = 2;
+/// From this many calls on, each call and each of its answers has to come up.
+const ENOUGH: u64 = 20_000;
+
+/// A difference, with its seed first.
+type Difference = (u64, String);
+
+/// Names the case if it ends by a panic.
+struct Running(u64);
+
+impl Drop for Running {
+    fn drop(&mut self) {
+        if std::thread::panicking() {
+            println!("seed {}, case \"{}\": a panic", self.0, class_of(self.0));
+        }
+    }
+}
+
+fn compare(seed: u64, totals: &mut Totals, bare: bool) -> Result<(), Difference> {
+    let _running = Running(seed);
+    let r = &Random::new(seed);
+    let done = case(seed, &mut Both { r, totals, bare });
+    done.map_err(|report| {
+        let class = class_of(seed);
+        (
+            seed,
+            format!("seed {seed}, case \"{class}\", call {}: a difference\n{report}", totals.calls),
+        )
+    })
+}
+
+/// Every WORKERS-th seed from `first` on, until `count` calls were made.
+fn work(first: u64, count: u64, bare: bool) -> Result<Totals, Difference> {
+    let mut totals = Totals::default();
+    let mut seed = first;
+    while totals.calls < count {
+        compare(seed, &mut totals, bare)?;
+        seed += WORKERS;
+    }
+    Ok(totals)
+}
+
+fn sum(all: &mut Totals, part: &Totals) {
+    all.calls += part.calls;
+    all.inside += part.inside;
+    all.outside += part.outside;
+    all.recovered += part.recovered;
+    for (all, part) in all.answers.iter_mut().flatten().zip(part.answers.iter().flatten()) {
+        *all += part;
+    }
+}
+
+/// Prints how often each call gave each answer; false if one of its answers never came up.
+fn print(totals: &Totals) -> bool {
+    let mut complete = totals.inside > 0 && totals.outside > 0 && totals.recovered > 0;
+    print!("{:<16}{:>8}", "call", "calls");
+    (0..10).for_each(|number| print!("{number:>8}"));
+    println!();
+    for ((name, possible), answers) in CALLS.iter().zip(&totals.answers) {
+        print!("{name:<16}{:>8}", answers.iter().sum::<u64>());
+        for (number, seen) in answers.iter().enumerate() {
+            match possible.contains(&number) {
+                true => print!("{seen:>8}"),
+                false => print!("{:>8}", if *seen == 0 { "" } else { "?" }),
+            }
+            complete &= (*seen > 0) == possible.contains(&number);
+        }
+        println!();
+    }
+    print!("{:<24}", "answers");
+    for number in 0..10 {
+        print!("{:>8}", totals.answers.iter().map(|answers| answers[number]).sum::<u64>());
+    }
+    println!();
+    println!(
+        "frames inside the premise {}, outside {}; recovered memories {}",
+        totals.inside, totals.outside, totals.recovered
+    );
+    complete
+}
+
+fn run(count: u64, first: u64, bare: bool) -> bool {
+    let mut totals = Totals::default();
+    let parts: Vec<_> = std::thread::scope(|scope| {
+        let count = count.div_ceil(WORKERS);
+        let worker = |number| scope.spawn(move || work(first + number, count, bare));
+        let workers: Vec<_> = (0..WORKERS).map(worker).collect();
+        workers.into_iter().map(|worker| worker.join().expect("no panic")).collect()
+    });
+    if let Some((_, report)) = parts.iter().filter_map(|part| part.as_ref().err()).min() {
+        print!("{report}");
+        return false;
+    }
+    parts.iter().flatten().for_each(|part| sum(&mut totals, part));
+    if !print(&totals) && totals.calls >= ENOUGH {
+        println!("some answer above never came up, or one that can't be");
+        return false;
+    }
+    println!("calls: {} equal", totals.calls);
+    true
+}
+
+fn one(seed: u64) -> bool {
+    let mut totals = Totals::default();
+    let compared = compare(seed, &mut totals, false);
+    match &compared {
+        Ok(()) => println!("calls: {} equal", totals.calls),
+        Err((_, report)) => print!("{report}"),
+    }
+    compared.is_ok()
+}
+
+fn usage() -> bool {
+    eprintln!("{USAGE}");
+    false
+}
+
+fn numbers(arguments: &[&str], bare: bool) -> bool {
+    let numbers: Option<Vec<u64>> = arguments.iter().map(|text| text.parse().ok()).collect();
+    match numbers.as_deref() {
+        Some([count]) => run(*count, 0, bare),
+        Some([count, first]) => run(*count, *first, bare),
+        _ => usage(),
+    }
+}
+
+fn main() -> ExitCode {
+    let arguments: Vec<String> = std::env::args().skip(1).collect();
+    let arguments: Vec<&str> = arguments.iter().map(String::as_str).collect();
+    let equal = match *arguments {
+        ["--broken", tests, library, work] => broken::run(tests, library, work),
+        ["--seed", seed] => seed.parse().map_or_else(|_| usage(), one),
+        ["--bare", ref given @ ..] => numbers(given, true),
+        ref given => numbers(given, false),
+    };
+    match equal {
+        true => ExitCode::SUCCESS,
+        false => ExitCode::FAILURE,
+    }
+}

@@ -1,0 +1,373 @@
+//! The calls that the library exports: what each answers and writes, on numbers and slices.
+//!
+//! What the calls do and when they are refused is document 01's. Plan, memory and system as words
+//! are the library's own layout, which document 01 has not: a memory is a counter and 32 patterns,
+//! a system 7 counters, 7 x 32 patterns and 7 good counts, a plan 446 words.
+
+use super::frame::{fault_length, message_length, Memory, System};
+use super::generate::plan_text;
+use super::plan::{parse_rows, read, Action, Plan, Row, Task, LINE, MOST_TASKS};
+
+pub const NODES: usize = 7;
+pub const FRAMES: usize = 16;
+pub const CELLS: usize = 32;
+pub const ACTUATORS: usize = 8;
+/// Nodes, frames, cells, sensors, actuators and tasks; initial patterns; tasks of six words; a word
+/// of votes for each frame; the actuators' cells.
+pub const COUNTS: usize = 6;
+pub const TASKS_AT: usize = COUNTS + CELLS;
+pub const VOTES_AT: usize = TASKS_AT + 6 * MOST_TASKS;
+pub const OUTPUTS_AT: usize = VOTES_AT + FRAMES;
+pub const PLAN_WORDS: usize = OUTPUTS_AT + ACTUATORS;
+
+/// "An unused task is a Take of zeros."
+const UNUSED_TASK: Row = [10, 0, 0, 0, 0, 0];
+
+/// "A refusal gives its number and a line from 1; 0 where no line is meant." As one number it is
+/// number + 256 x line; 0 is done.
+fn answer(number: u64, line: usize) -> u64 {
+    number + 256 * line as u64
+}
+
+// ---- a plan as rows and as words
+
+fn task_row(frame: usize, task: &Task) -> Row {
+    let row = |kind: u64, a: usize, fifth: u64, sixth: u64| {
+        [kind, frame as u64, task.target as u64, a as u64, fifth, sixth]
+    };
+    match task.action {
+        Action::Take { sensor } => row(10, sensor, 0, 0),
+        Action::Sum { a, b } => row(11, a, b as u64, 0),
+        Action::Diff { a, b } => row(12, a, b as u64, 0),
+        Action::Scale { a, factor } => row(13, a, factor, 0),
+        Action::Limit { a, low, high } => row(14, a, low, high),
+        Action::Wind { a, rate, cap } => row(15, a, rate, cap),
+    }
+}
+
+/// The counts of the header: nodes, frames, cells, sensors, actuators.
+fn header(plan: &Plan) -> [u64; 5] {
+    [plan.nodes, plan.frames, plan.cells, plan.sensors, plan.actuators].map(|count| count as u64)
+}
+
+fn task_rows(plan: &Plan) -> Vec<Row> {
+    let frames = plan.tasks.iter().enumerate();
+    frames.flat_map(|(frame, tasks)| tasks.iter().map(move |task| task_row(frame, task))).collect()
+}
+
+/// The plan's lines: "a plan has one record and one text".
+fn rows_of(plan: &Plan) -> Vec<Row> {
+    let [n, f, c, s, a] = header(plan);
+    let mut rows = vec![[0, n, f, c, s, a]];
+    rows.extend((0..).zip(&plan.initial).map(|(cell, &pattern)| [1, cell, 0, 0, pattern, 0]));
+    rows.extend(task_rows(plan));
+    for (frame, cells) in (0..).zip(&plan.votes) {
+        rows.extend(cells.iter().map(|&cell| [20, frame, cell as u64, 0, 0, 0]));
+    }
+    rows.extend((0..).zip(&plan.outputs).map(|(index, &cell)| [30, index, cell as u64, 0, 0, 0]));
+    rows
+}
+
+pub fn words_of(plan: &Plan) -> Vec<u64> {
+    let mut tasks = task_rows(plan);
+    let mut words = header(plan).to_vec();
+    words.push(tasks.len() as u64);
+    words.extend(&plan.initial);
+    words.resize(TASKS_AT, 0);
+    tasks.resize(MOST_TASKS, UNUSED_TASK);
+    words.extend(tasks.iter().flatten());
+    words.extend(plan.votes.iter().map(|cells| cells.iter().map(|cell| 1 << cell).sum::<u64>()));
+    words.resize(OUTPUTS_AT, 0);
+    words.extend(plan.outputs.iter().map(|&cell| cell as u64));
+    words.resize(PLAN_WORDS, 0);
+    words
+}
+
+/// The first `count` entries, if the others are unused: "A plan record's entries past its counts
+/// are all zero."
+fn used<T: PartialEq>(entries: &[T], count: u64, unused: T) -> Option<&[T]> {
+    let (used, past) = entries.split_at_checked(usize::try_from(count).ok()?)?;
+    past.iter().all(|entry| *entry == unused).then_some(used)
+}
+
+/// The plan that the words are; None is "7: a plan record that no accepted text has".
+pub fn plan_of(words: &[u64]) -> Option<Plan> {
+    if words.len() != PLAN_WORDS {
+        return None;
+    }
+    let [n, f, c, s, a, tasks] = *words.first_chunk()?;
+    let all_tasks: Vec<Row> =
+        words[TASKS_AT..VOTES_AT].chunks_exact(6).map(|task| task.try_into().unwrap()).collect();
+    let initial = used(&words[COUNTS..TASKS_AT], c, 0)?;
+    let tasks = used(&all_tasks, tasks, UNUSED_TASK)?;
+    let outputs = used(&words[OUTPUTS_AT..], a, 0)?;
+    if !tasks.iter().all(|row| (10..=15).contains(&row[0])) {
+        return None;
+    }
+    let mut rows = vec![[0, n, f, c, s, a]];
+    rows.extend((0..).zip(initial).map(|(cell, &pattern)| [1, cell, 0, 0, pattern, 0]));
+    rows.extend_from_slice(tasks);
+    for (frame, word) in (0..).zip(&words[VOTES_AT..OUTPUTS_AT]) {
+        let cells = (0..64).filter(|cell| word >> cell & 1 == 1);
+        rows.extend(cells.map(|cell| [20, frame, cell, 0, 0, 0]));
+    }
+    rows.extend((0..).zip(outputs).map(|(index, &cell)| [30, index, cell, 0, 0, 0]));
+    parse_rows(rows.into_iter().map(Some)).ok()?.with_period().ok()
+}
+
+// ---- calls on plans. From here on a plan is None where 7 refuses its words.
+
+pub fn plan_read(text: &[u8], words: &mut [u64]) -> u64 {
+    match read(text) {
+        Err(refusal) => answer(refusal.number, refusal.line),
+        Ok(_) if words.len() != PLAN_WORDS => answer(8, 0),
+        Ok(plan) => {
+            words.copy_from_slice(&words_of(&plan));
+            0
+        }
+    }
+}
+
+/// "8: .. a text buffer too short." "A written text fills the first bytes of its buffer; the rest
+/// is unchanged."
+pub fn plan_write(plan: Option<&Plan>, buffer: &mut [u8], count: &mut usize) -> u64 {
+    *count = 0;
+    let Some(plan) = plan else { return answer(7, 0) };
+    let text = plan_text(&rows_of(plan));
+    if buffer.len() < text.len() {
+        return answer(8, 0);
+    }
+    buffer[..text.len()].copy_from_slice(&text);
+    *count = text.len();
+    0
+}
+
+pub fn plan_check(plan: Option<&Plan>) -> u64 {
+    plan.map_or(answer(7, 0), |_| 0)
+}
+
+pub fn plan_period(plan: Option<&Plan>, period: &mut usize) -> u64 {
+    *period = plan.map_or(0, |plan| plan.period);
+    plan_check(plan)
+}
+
+pub fn message_size(plan: Option<&Plan>) -> usize {
+    plan.map_or(0, message_length)
+}
+
+/// "Each node has n bins .. its mailbox is these bins one after another."
+pub fn mailbox_size(plan: Option<&Plan>) -> usize {
+    plan.map_or(0, |plan| plan.nodes * message_length(plan))
+}
+
+pub fn faults_size(plan: Option<&Plan>) -> usize {
+    plan.map_or(0, fault_length)
+}
+
+pub fn text_size(plan: Option<&Plan>) -> usize {
+    plan.map_or(0, |plan| LINE * rows_of(plan).len())
+}
+
+// ---- calls on one node
+
+/// The memory of a counter and patterns. "What a memory .. holds past .. C cells .. is neither read
+/// nor changed."
+pub fn memory_of(plan: &Plan, counter: u16, cells: &[u64]) -> Memory {
+    Memory { counter, cells: cells[..plan.cells].to_vec() }
+}
+
+fn put_memory(memory: Memory, counter: &mut u16, cells: &mut [u64]) {
+    *counter = memory.counter;
+    cells[..memory.cells.len()].copy_from_slice(&memory.cells);
+}
+
+/// "At power-on the counter is 0 and cells are initial, zero past C."
+pub fn node_power_on(plan: Option<&Plan>, counter: &mut u16, cells: &mut [u64]) -> u64 {
+    let Some(plan) = plan else { return answer(7, 0) };
+    if cells.len() != CELLS {
+        return answer(8, 0);
+    }
+    cells.fill(0);
+    put_memory(Memory::power_on(plan), counter, cells);
+    0
+}
+
+pub fn node_compute(
+    plan: Option<&Plan>,
+    counter: &mut u16,
+    cells: &mut [u64],
+    sensors: &[u64],
+) -> u64 {
+    let Some(plan) = plan else { return answer(7, 0) };
+    if cells.len() != CELLS || sensors.len() != plan.sensors {
+        return answer(8, 0);
+    }
+    let mut memory = memory_of(plan, *counter, cells);
+    memory.compute(plan, sensors);
+    put_memory(memory, counter, cells);
+    0
+}
+
+pub fn node_message(plan: Option<&Plan>, counter: u16, cells: &[u64], message: &mut [u8]) -> u64 {
+    let Some(plan) = plan else { return answer(7, 0) };
+    if cells.len() != CELLS || message.len() != message_length(plan) {
+        return answer(8, 0);
+    }
+    memory_of(plan, counter, cells).message(plan, message);
+    0
+}
+
+pub fn node_vote(plan: Option<&Plan>, counter: &mut u16, cells: &mut [u64], mailbox: &[u8]) -> u64 {
+    let Some(plan) = plan else { return answer(7, 0) };
+    if cells.len() != CELLS || mailbox.len() != plan.nodes * message_length(plan) {
+        return answer(8, 0);
+    }
+    let mut memory = memory_of(plan, *counter, cells);
+    memory.vote(plan, mailbox);
+    put_memory(memory, counter, cells);
+    0
+}
+
+fn put_setpoints(plan: &Plan, memory: &Memory, place: &mut [u64]) {
+    for (actuator, setpoint) in place.iter_mut().enumerate() {
+        *setpoint = memory.setpoint(plan, actuator);
+    }
+}
+
+pub fn node_setpoints(plan: Option<&Plan>, counter: u16, cells: &[u64], place: &mut [u64]) -> u64 {
+    let Some(plan) = plan else { return answer(7, 0) };
+    if cells.len() != CELLS || place.len() != plan.actuators {
+        return answer(8, 0);
+    }
+    put_setpoints(plan, &memory_of(plan, counter, cells), place);
+    0
+}
+
+/// "It computes as above, and its setpoint i is then the pattern of the cell of actuator i. .. It
+/// never votes."
+pub fn single_frame(
+    plan: Option<&Plan>,
+    counter: &mut u16,
+    cells: &mut [u64],
+    sensors: &[u64],
+    place: &mut [u64],
+) -> u64 {
+    let Some(plan) = plan else { return answer(7, 0) };
+    if cells.len() != CELLS || sensors.len() != plan.sensors || place.len() != plan.actuators {
+        return answer(8, 0);
+    }
+    let mut memory = memory_of(plan, *counter, cells);
+    memory.compute(plan, sensors);
+    put_setpoints(plan, &memory, place);
+    put_memory(memory, counter, cells);
+    0
+}
+
+// ---- calls on the whole system
+
+/// The lengths of a system's counters, patterns and good counts.
+fn of_length(counters: &[u16], cells: &[u64], good: &[u16]) -> bool {
+    counters.len() == NODES && cells.len() == NODES * CELLS && good.len() == NODES
+}
+
+/// "9: mask >= 2^n, or a good count above R." Good counts of another length are not tested.
+fn mask_or_count(plan: &Plan, mask: u64, good: &[u16]) -> bool {
+    let above = |&count: &u16| usize::from(count) > plan.period;
+    let counts = good.len() == NODES && good[..plan.nodes].iter().any(above);
+    mask >= 1 << plan.nodes || counts
+}
+
+/// "n memories and n good counts, each R, with zeros past them."
+pub fn system_power_on(
+    plan: Option<&Plan>,
+    counters: &mut [u16],
+    cells: &mut [u64],
+    good: &mut [u16],
+) -> u64 {
+    let Some(plan) = plan else { return answer(7, 0) };
+    if !of_length(counters, cells, good) {
+        return answer(8, 0);
+    }
+    counters.fill(0);
+    cells.fill(0);
+    good.fill(0);
+    put_system(&System::power_on(plan), counters, cells, good);
+    0
+}
+
+fn put_system(system: &System, counters: &mut [u16], cells: &mut [u64], good: &mut [u16]) {
+    for (node, memory) in system.memories.iter().enumerate() {
+        put_memory(memory.clone(), &mut counters[node], &mut cells[CELLS * node..]);
+        good[node] = system.counts[node] as u16;
+    }
+}
+
+#[allow(clippy::too_many_arguments)]
+pub fn system_frame(
+    plan: Option<&Plan>,
+    counters: &mut [u16],
+    cells: &mut [u64],
+    good: &mut [u16],
+    sensors: &[u64],
+    mask: u64,
+    faults: &[u8],
+    place: &mut [u64],
+) -> u64 {
+    let Some(plan) = plan else { return answer(7, 0) };
+    if mask_or_count(plan, mask, good) {
+        return answer(9, 0);
+    }
+    let lengths = sensors.len() == plan.sensors
+        && faults.len() == fault_length(plan)
+        && place.len() == plan.actuators;
+    if !of_length(counters, cells, good) || !lengths {
+        return answer(8, 0);
+    }
+    let mut system = System::power_on(plan);
+    for node in 0..plan.nodes {
+        system.memories[node] = memory_of(plan, counters[node], &cells[CELLS * node..]);
+        system.counts[node] = usize::from(good[node]);
+    }
+    system.frame(plan, sensors, mask, faults, place);
+    put_system(&system, counters, cells, good);
+    0
+}
+
+/// "A node is working in a frame if it is good in it and its count before was R."
+pub fn system_working(plan: Option<&Plan>, good: &[u16], mask: u64, count: &mut usize) -> u64 {
+    *count = 0;
+    let Some(plan) = plan else { return answer(7, 0) };
+    if mask_or_count(plan, mask, good) {
+        return answer(9, 0);
+    }
+    if good.len() != NODES {
+        return answer(8, 0);
+    }
+    let works = |&node: &usize| mask >> node & 1 == 0 && usize::from(good[node]) == plan.period;
+    *count = (0..plan.nodes).filter(works).count();
+    0
+}
+
+/// "Nodes whose memory then equals the single controller's."
+pub fn system_equal(
+    plan: Option<&Plan>,
+    counters: &[u16],
+    cells: &[u64],
+    good: &[u16],
+    counter: u16,
+    single: &[u64],
+    count: &mut usize,
+) -> u64 {
+    *count = 0;
+    let Some(plan) = plan else { return answer(7, 0) };
+    if mask_or_count(plan, 0, good) {
+        return answer(9, 0);
+    }
+    if !of_length(counters, cells, good) || single.len() != CELLS {
+        return answer(8, 0);
+    }
+    let single = memory_of(plan, counter, single);
+    let equal = |&node: &usize| memory_of(plan, counters[node], &cells[CELLS * node..]) == single;
+    *count = (0..plan.nodes).filter(equal).count();
+    0
+}
