@@ -11,7 +11,6 @@ use lib.ListN.{length, take, drop, take-append-drop, drop-of-length-le}
 use lib.Seq.{length-take-le}
 use borrow.Author.Tests.{eq-eqb, ne-eqb, le-leb, lt-leb}
 use borrow.Rule.Slice.PartMut.{putMid}
-use Rattle.array.proofs.TestLaws.{and-false-right}
 use Rattle.answer.specs.declared.Answer.{Answer}
 use Rattle.answer.specs.declared.Answer.the-variants.{Done, InvalidPlan, WrongLength, MaskOrCount, RunLine}
 use Rattle.answer.specs.Refusal.{numberOf, lineOf}
@@ -19,9 +18,10 @@ use Rattle.answer.specs.Tests.{numberIn, lineIn, passed, answerOf, answered, if
 use Rattle.answer.proofs.TestLaws.{AllNamed, named-by, answered-number, answered-line}
 use Rattle.plan.specs.declared.Plan.{Plan}
 use Rattle.plan.specs.Known.{period}
-use Rattle.plan.specs.Accepted.{accepted, wellFormed, headerOk, storable}
+use Rattle.plan.specs.Accepted.{accepted}
 use Rattle.plan_period.specs.Answers.{planTests, acceptedPeriod}
 use Rattle.plan_text.specs.declared.PlanRead.{PlanRead}
+use Rattle.plan_grammar.proofs.MeantLaws.{zero-refused}
 use Rattle.plan_grammar.specs.Meant.{zeroPlan, planOf}
 use Rattle.plan_grammar.specs.Refused.{textRefusal}
 use Rattle.plan_text.specs.Answers.{readAnswer}
@@ -75,10 +75,6 @@ module _ (a : Answer) (out : List ℕ) where
   refusal-written l e k f = rw (le-leb refusalSize (length out) l, ne-eqb (numberOf a) 0 e) (refl, f ∙ rw k)
 
 -- ---- start
-
-zero-refused : accepted zeroPlan ≡ false
-unfolding accepted wellFormed headerOk
-zero-refused = ap (λ (b : Bool). b && not (eqb (period zeroPlan) 0)) (and-false-right (storable zeroPlan) refl)
 
 -- what the calls give of a plan: the run at power-on, or the all-zero one
 module _ (p : Plan) (n : ℕ) (started : Began) (powered : Outcome) (f : n ≡ acceptedPeriod p) (g : started ≡ power.systemPowerOnAnswer p) (h : powered ≡ node.powerOnAnswer p) where

@@ -7,7 +7,7 @@ use Prim.Native.Nat.{ℕ, _+_, _-_, _*_, _≤_, _<_}
 use native.Mathlib.Nat.{add-sub-cancel-left}
 use native.Mathlib.Omega.{arith}
 use lib.ListN.{length, take, drop}
-use Rattle.array.proofs.TestLaws.{and-false-left, and-false-right, refused-test, passed-test}
+use Rattle.array.proofs.TestLaws.{refused-test, passed-test}
 use Rattle.answer.specs.declared.Answer.{Answer}
 use Rattle.answer.specs.declared.Answer.the-variants.{Done, TextLength, Malformed, Header, OutOfOrder, OutOfRange, Unrecoverable}
 use Rattle.column.specs.Row.{numbersShown}
@@ -15,7 +15,7 @@ use Rattle.answer.specs.Tests.{unlessRefused}
 use Rattle.plan.specs.declared.Plan.{Plan}
 use Rattle.plan.specs.Limits.{mostTasks}
 use Rattle.plan.specs.Known.{period}
-use Rattle.plan.specs.Accepted.{headerOk, storable, wellFormed, accepted}
+use Rattle.plan.specs.Accepted.{wellFormed}
 use Rattle.plan_text.specs.declared.PlanRead.{PlanRead}
 use Rattle.plan_line.specs.declared.Line.{Line}
 use Rattle.plan_line.specs.declared.LineRead.{LineRead}
@@ -26,7 +26,7 @@ use Rattle.plan_grammar.specs.Refused.{lengthOk, isHeader, inOrder, inRange, li
 use Rattle.plan_text.specs.Answers.{readAnswer, readPeriod}
 use Rattle.plan_line.specs.Code.{numbersIn, numbersRead}
 use Rattle.plan_grammar.proofs.LineLaws.{slice-part, lineAt-is, some-line, few-lines}
-use Rattle.plan_grammar.proofs.MeantLaws.{planTo-start, planTo-more, planTo-tasks, planTo-count}
+use Rattle.plan_grammar.proofs.MeantLaws.{zero-refused, planTo-start, planTo-more, planTo-tasks, planTo-count}
 use Rattle.plan_grammar.proofs.RefusedLaws.{first-start, first-more, line-malformed, not-header, header-passes, refused-order, refused-range, not-refused, lines-none, lines-refused, lines-missing, text-wrong-length, text-refused, text-unrecoverable, text-none}
 use Rattle.plan_grammar.proofs.AcceptedTextLaws.{text-wellFormed}
 use Rattle.plan_period.proofs.AnswerLaws.{accepted-period, refused-period}
@@ -54,11 +54,6 @@ Refusal x n a = (x .answer ≡ a) × (x .plan ≡ zeroPlan) × (n ≡ 0)
 -- the answer to a text, and the plan's period
 abbrev Answered : List ℕ → PlanRead → ℕ → Type 0
 Answered s x n = (x ≡ readAnswer s) × (n ≡ readPeriod s)
-
--- no text has the all-zero record
-pub zero-refused : accepted zeroPlan ≡ false
-unfolding accepted wellFormed headerOk
-zero-refused = and-false-left _ (and-false-right (storable zeroPlan) refl)
 
 module _ (s : List ℕ) where
   refused : {x : PlanRead} {k : ℕ} {a : Answer} → textRefusal s ≡ some a → Refusal x k a → Answered s x k

@@ -1,18 +1,17 @@
 -- Laws for the proofs of the exported calls: what is given and written, by the way a call goes. Where the words have their lengths it is what the wrapped call gives.
-use mathlib.Core.Path.{_≡_, refl, sym, ap, _∙_, subst}
+use mathlib.Core.Path.{_≡_, refl, sym, ap, _∙_}
 use mathlib.Core.Bool.{Bool, true, false, not, cond, _&&_}
 use mathlib.Core.List.{List, [], _∷_}
-use mathlib.Core.Option.{Option, none, some, Option·getD}
+use mathlib.Core.Option.{Option, none, some}
 use Prim.Native.Nat.{ℕ, _^_}
 use native.Mathlib.Omega.{arith}
 use lib.Dec.{eqb}
 use lib.ListN.{length}
 use lib.Pow.{pow-pos}
 use borrow.Author.Tests.{eq-eqb, ne-eqb, eqb-true, lt-ltb}
-use Rattle.array.specs.Index.{howMany, fill}
-use Rattle.array.proofs.TestLaws.{split, clash, refused-test, passed-test, and-left, and-right, and-both, and-false-left, and-false-right}
+use Rattle.array.proofs.TestLaws.{split, clash, refused-test, passed-test, and-left, and-right, and-false-left, and-false-right}
 use Rattle.answer.specs.declared.Answer.{Answer}
-use Rattle.answer.specs.declared.Answer.the-variants.{Done, InvalidPlan, WrongLength, MaskOrCount}
+use Rattle.answer.specs.declared.Answer.the-variants.{Done, WrongLength}
 use Rattle.answer.specs.Refusal.{numberOf}
 use Rattle.answer.specs.Tests.{Test, test, passed, answerOf, answered, ifPassed, unlessRefused}
 use Rattle.plan.specs.declared.Plan.{Plan}
@@ -32,19 +31,17 @@ use Rattle.plan_grammar.specs.Meant.{zeroPlan, planOf}
 use Rattle.plan_words.specs.Words.{planSize, planWords, planOfWords}
 use Rattle.memory.specs.declared.Memory.{Memory}
 use Rattle.memory.specs.declared.Outcome.{Outcome}
-use Rattle.memory.specs.Node.{poweredOn, computed, messageOf, voted, setpoint}
-use Rattle.memory.specs.Size.{messageSize, mailboxSize}
+use Rattle.memory.specs.Size.{messageSize}
 use Rattle.node.specs.Answers.{lengthTests, lengthChecked, powerOnAnswer, computeAnswer, voteAnswer, messagePlace, setpointPlace}
 use Rattle.system.specs.declared.System.{System}
 use Rattle.system.specs.declared.Started.{Started}
 use Rattle.system.specs.declared.Framed.{Framed}
 use Rattle.system.specs.declared.Counted.{Counted as SystemCounted}
 use Rattle.system.specs.System.{powerOn, systemPowerOnAnswer}
-use Rattle.system.specs.Counts.{isWorking}
-use Rattle.system.specs.Frame.{memoryOf, maskOk, countsOk, lengthsOk, systemAfter, placeAfter, singlePlace, sameMemory, singleTests, singleAnswer, singlePlaceAfter, frameTests as systemTests, frameAnswer, framePlace, workingTests as systemWorkingTests, workingAnswer, equalTests as systemEqualTests, equalAnswer}
+use Rattle.system.specs.Frame.{maskOk, countsOk, lengthsOk, singleTests, singleAnswer, singlePlaceAfter, frameTests as systemTests, frameAnswer, framePlace, workingTests as systemWorkingTests, workingAnswer, equalTests as systemEqualTests, equalAnswer}
 use Rattle.system_words.specs.Words.{codeOf, memoryOfWords, patternCount, rowsOk, systemOfWords, countersOf, patternsOf, countsAlone}
 use Rattle.system_words.proofs.WordsLaws.{rows-lengths, counters-back, patterns-back, good-back}
-use Rattle.ragbasalt.specs.Calls.{readCall, wordsTests, Counted, Placed, Written, Stored, Single, Rows, Frame, counted, placedAt, writtenAt, stored, single, rows, frame, writeCall, checkCall, periodCall, sizeCall, nodeTests, cellsRefused, memoryCall, placeCall, powerOnCall, computeCall, voteCall, messageCall, setpointsCall, singleRight, singleCall, countsTests, rowsRight, startTests, startCall, frameTests, frameCall, equalTests, equalCall, workingTests, workingCall}
+use Rattle.ragbasalt.specs.Calls.{readCall, wordsTests, Counted, Frame, counted, placedAt, writtenAt, stored, single, rows, frame, writeCall, checkCall, periodCall, sizeCall, nodeTests, cellsRefused, memoryCall, placeCall, powerOnCall, computeCall, voteCall, messageCall, setpointsCall, singleRight, singleCall, countsTests, rowsRight, startTests, startCall, frameTests, frameCall, equalTests, equalCall, workingTests, workingCall}
 
 -- ---- results by their parts
 

@@ -1,14 +1,13 @@
 -- The line of an answer: no text has more than 617 lines, so what the library gives is number + 256 × line and never cut.
-use mathlib.Core.Path.{_≡_, refl, ap, _∙_}
+use mathlib.Core.Path.{_≡_, refl}
 use mathlib.Core.Bool.{Bool, true, false, cond}
 use mathlib.Core.List.{List}
 use mathlib.Core.Option.{Option, none, some, Option·getD}
-use Prim.Native.Nat.{ℕ, zero, suc, _+_, _*_, _-_, _^_, _≤_, _<_}
+use Prim.Native.Nat.{ℕ, zero, suc, _+_, _*_, _-_, _≤_}
 use native.Mathlib.Omega.{arith}
 use lib.ListN.{length}
-use Rattle.array.proofs.TestLaws.{split}
 use Rattle.answer.specs.declared.Answer.{Answer}
-use Rattle.answer.specs.declared.Answer.the-variants.{Done, TextLength, Malformed, Header, OutOfOrder, OutOfRange, Unrecoverable}
+use Rattle.answer.specs.declared.Answer.the-variants.{Done, TextLength, Header, OutOfOrder, OutOfRange, Unrecoverable}
 use Rattle.answer.specs.Refusal.{numberOf, lineOf}
 use Rattle.plan_grammar.specs.Line.{mostTextLines, lineCount, lineAt, numbersAt}
 use Rattle.plan_grammar.specs.Refused.{lengthOk, isHeader, inOrder, inRange, rulesOf, formOrRules, lineRefusal, orRefusal, firstRefusal, isLast, endRefusal, periodRefusal, linesRefusal, textRefusal}
@@ -17,7 +16,6 @@ use Rattle.plan_grammar.proofs.LineLaws.{few-lines}
 use Rattle.plan.specs.Known.{period}
 use Rattle.plan_text.specs.Answers.{readAnswer}
 use Rattle.system_words.specs.Words.{codeOf}
-use Rattle.system_words.proofs.WordsLaws.{number-small}
 use lib.Dec.{eqb}
 
 -- a refusal, if there is one, is of line n or of one before it

@@ -9,17 +9,8 @@ use Rattle.ragbasalt.proofs.CallLaws.{size-none, size-given}
 use Rattle.ragbasalt.proofs.ragbasalt_faults_size.Statement.{statement}
 use Rattle.ragbasalt.proofs.ragbasalt_faults_size.Tie as tie
 
-plan-requires : tie.Need-plan-requires
-plan-requires c κs = search needs
-
-accepted-period-requires : tie.Need-accepted-period-requires
-accepted-period-requires c κs = search needs
-
 returns : tie.Need-returns
 returns c = size-none _ (c .before .before .plan .ensures) (λ p. faultsSize (sizesOf p)) (refused-of-period _ (c .before .accepted-period .ensures) (c .if1 .taken))
-
-sizes-with-requires : tie.Need-sizes-with-requires
-sizes-with-requires c κs = search needs
 
 size-requires : tie.Need-size-requires
 size-requires c κs = small-numbers _ (accepted-of-period _ (c .before .before .accepted-period .ensures) (c .before .if1 .left)) (c .sizes-with .ensures)
@@ -31,9 +22,9 @@ pub ragbasalt-faults-size-spec : {M : Type 1} → statement M
 ragbasalt-faults-size-spec =
     tie.close
     (tie.spec
-    plan-requires
-    accepted-period-requires
+    (λ c κs. search needs)
+    (λ c κs. search needs)
     returns
-    sizes-with-requires
+    (λ c κs. search needs)
     size-requires
     returns-2)

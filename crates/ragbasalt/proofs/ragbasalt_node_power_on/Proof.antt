@@ -4,35 +4,11 @@ use Rattle.ragbasalt.proofs.CallLaws.{power-on-wrong, power-on-plan, po
 use Rattle.ragbasalt.proofs.ragbasalt_node_power_on.Statement.{statement}
 use Rattle.ragbasalt.proofs.ragbasalt_node_power_on.Tie as tie
 
-plan-requires : tie.Need-plan-requires
-plan-requires c κs = search needs
-
-cells-refused-requires : tie.Need-cells-refused-requires
-cells-refused-requires c κs = search needs
-
 returns : tie.Need-returns
 returns c = power-on-wrong _ _ _ (c .before .before .plan .ensures) (c .before .if1 .taken) (c .cells-refused .ensures)
 
-power-on-requires : tie.Need-power-on-requires
-power-on-requires c κs = search needs
-
-number-requires : tie.Need-number-requires
-number-requires c κs = search needs
-
-code-requires : tie.Need-code-requires
-code-requires c κs = search needs
-
 returns-2 : tie.Need-returns-2
 returns-2 c = power-on-plan _ _ _ (c .before .before .before .before .before .plan .ensures) (c .before .before .before .before .if1 .left) (c .before .before .before .power-on .ensures) (started-refused _ (c .before .before .number .ensures) (c .before .before .before .power-on .ensures) (c .before .if2 .taken)) (c .code .ensures)
-
-put-memory-requires : tie.Need-put-memory-requires
-put-memory-requires c κs = search needs
-
-code-requires-2 : tie.Need-code-requires-2
-code-requires-2 c κs = search needs
-
-same-length : tie.Need-same-length
-same-length c = search needs
 
 returns-3 : tie.Need-returns-3
 returns-3 c = power-on-made _ _ _ (c .before .before .before .before .before .before .before .before .before .before .plan .ensures) (c .before .before .before .before .before .before .before .before .before .if1 .left) (c .before .before .before .before .before .before .before .before .power-on .ensures) (started-passed _ (c .before .before .before .before .before .before .before .number .ensures) (c .before .before .before .before .before .before .before .before .power-on .ensures) (c .before .before .before .before .before .before .if2 .left)) (c .code2 .ensures) (c .before .before .before .put-memory .ensures)
@@ -41,14 +17,14 @@ pub ragbasalt-node-power-on-spec : {M : Type 1} → statement M
 ragbasalt-node-power-on-spec =
     tie.close
     (tie.spec
-    plan-requires
-    cells-refused-requires
+    (λ c κs. search needs)
+    (λ c κs. search needs)
     returns
-    power-on-requires
-    number-requires
-    code-requires
+    (λ c κs. search needs)
+    (λ c κs. search needs)
+    (λ c κs. search needs)
     returns-2
-    put-memory-requires
-    code-requires-2
-    same-length
+    (λ c κs. search needs)
+    (λ c κs. search needs)
+    (λ c. search needs)
     returns-3)

@@ -4,29 +4,14 @@ use Rattle.ragbasalt.proofs.CallLaws.{read-refused, read-length, read-a
 use Rattle.ragbasalt.proofs.ragbasalt_plan_read.Statement.{statement}
 use Rattle.ragbasalt.proofs.ragbasalt_plan_read.Tie as tie
 
-read-requires : tie.Need-read-requires
-read-requires c κs = search needs
-
-code-requires : tie.Need-code-requires
-code-requires c κs = search needs
-
 returns : tie.Need-returns
 returns c = read-refused _ _ (c .before .before .read .ensures .0) (c .before .before .read .ensures .1) (c .before .if1 .taken) (c .code .ensures)
-
-code-requires-2 : tie.Need-code-requires-2
-code-requires-2 c κs = search needs
 
 returns-2 : tie.Need-returns-2
 returns-2 c = read-length _ _ (c .before .before .before .read .ensures .0) (c .before .before .before .read .ensures .1) (c .before .before .if1 .left) (c .before .if2 .taken) (c .code2 .ensures)
 
 put-requires : tie.Need-put-requires
 put-requires c κs = (read-accepted _ (c .before .before .before .before .before .before .before .before .args .plan .now) (c .before .before .before .before .read .ensures .0) (c .before .before .before .before .read .ensures .1) (c .before .before .before .if1 .left), c .before .before .if2 .left)
-
-code-requires-3 : tie.Need-code-requires-3
-code-requires-3 c κs = search needs
-
-same-length : tie.Need-same-length
-same-length c = search needs
 
 returns-3 : tie.Need-returns-3
 returns-3 c = read-done _ _ (c .before .before .before .before .before .before .before .before .read .ensures .0) (c .before .before .before .before .before .before .before .before .read .ensures .1) (c .before .before .before .before .before .before .before .if1 .left) (c .before .before .before .before .before .before .if2 .left) (c .code3 .ensures) (c .before .before .before .put .ensures)
@@ -35,12 +20,12 @@ pub ragbasalt-plan-read-spec : {M : Type 1} → statement M
 ragbasalt-plan-read-spec =
     tie.close
     (tie.spec
-    read-requires
-    code-requires
+    (λ c κs. search needs)
+    (λ c κs. search needs)
     returns
-    code-requires-2
+    (λ c κs. search needs)
     returns-2
     put-requires
-    code-requires-3
-    same-length
+    (λ c κs. search needs)
+    (λ c. search needs)
     returns-3)

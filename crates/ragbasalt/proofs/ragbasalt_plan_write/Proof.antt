@@ -4,21 +4,9 @@ use Rattle.ragbasalt.proofs.CallLaws.{write-made}
 use Rattle.ragbasalt.proofs.ragbasalt_plan_write.Statement.{statement}
 use Rattle.ragbasalt.proofs.ragbasalt_plan_write.Tie as tie
 
-plan-requires : tie.Need-plan-requires
-plan-requires c κs = search needs
-
-write-requires : tie.Need-write-requires
-write-requires c κs = search needs
-
-code-requires : tie.Need-code-requires
-code-requires c κs = search needs
-
-same-length : tie.Need-same-length
-same-length c = search needs
-
 returns : tie.Need-returns
 returns c = write-made _ (c .before .before .before .before .before .plan .ensures) _ (c .before .before .before .write .ensures) (c .code .ensures)
 
 pub ragbasalt-plan-write-spec : {M : Type 1} → statement M
 ragbasalt-plan-write-spec =
-    tie.close (tie.spec plan-requires write-requires code-requires same-length returns)
+    tie.close (tie.spec (λ c κs. search needs) (λ c κs. search needs) (λ c κs. search needs) (λ c. search needs) returns)

@@ -4,15 +4,6 @@ use Rattle.ragbasalt.proofs.CallLaws.{lengths-refused, lengths-passed, 
 use Rattle.ragbasalt.proofs.ragbasalt_system_equal.Statement.{statement}
 use Rattle.ragbasalt.proofs.ragbasalt_system_equal.Tie as tie
 
-plan-requires : tie.Need-plan-requires
-plan-requires c κs = search needs
-
-rows-ok-requires : tie.Need-rows-ok-requires
-rows-ok-requires c κs = search needs
-
-rows-refused-requires : tie.Need-rows-refused-requires
-rows-refused-requires c κs = search needs
-
 returns : tie.Need-returns
 returns c = let a = c .before .before .before .before .before .before .before .before .before .args in equal-wrong _ _ _ _ (c .before .before .before .plan .ensures) _ _ (lengths-refused (a .counters .now) (a .cells .now) (a .good .now) (a .single .now) (c .before .before .rows-ok .ensures) (c .before .if1 .taken)) (c .rows-refused .ensures)
 
@@ -22,12 +13,6 @@ system-requires c κs = let a = c .before .before .before .before .before .befor
 memory-requires : tie.Need-memory-requires
 memory-requires c κs = let a = c .before .before .before .before .before .before .before .before .before .args in lengths-passed (a .counters .now) (a .cells .now) (a .good .now) (a .single .now) (c .before .before .rows-ok .ensures) (c .before .if1 .left) .1
 
-equal-requires : tie.Need-equal-requires
-equal-requires c κs = search needs
-
-code-requires : tie.Need-code-requires
-code-requires c κs = search needs
-
 returns-2 : tie.Need-returns-2
 returns-2 c = let a = c .before .before .before .before .before .before .before .before .before .before .before .before .args in let t = lengths-passed (a .counters .now) (a .cells .now) (a .good .now) (a .single .now) (c .before .before .before .before .before .rows-ok .ensures) (c .before .before .before .before .if1 .left) in equal-made _ _ _ _ (c .before .before .before .before .before .before .plan .ensures) (t .0) _ _ (t .1) (c .before .before .before .system .ensures) (c .before .before .memory .ensures) (c .before .equal .ensures) (c .code .ensures)
 
@@ -35,12 +20,12 @@ pub ragbasalt-system-equal-spec : {M : Type 1} → statement M
 ragbasalt-system-equal-spec =
     tie.close
     (tie.spec
-    plan-requires
-    rows-ok-requires
-    rows-refused-requires
+    (λ c κs. search needs)
+    (λ c κs. search needs)
+    (λ c κs. search needs)
     returns
     system-requires
     memory-requires
-    equal-requires
-    code-requires
+    (λ c κs. search needs)
+    (λ c κs. search needs)
     returns-2)

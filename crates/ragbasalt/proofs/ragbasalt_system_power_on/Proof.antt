@@ -5,44 +5,14 @@ use Rattle.ragbasalt.proofs.CallLaws.{start-wrong, start-plan, start-ma
 use Rattle.ragbasalt.proofs.ragbasalt_system_power_on.Statement.{statement}
 use Rattle.ragbasalt.proofs.ragbasalt_system_power_on.Tie as tie
 
-plan-requires : tie.Need-plan-requires
-plan-requires c κs = search needs
-
-rows-ok-requires : tie.Need-rows-ok-requires
-rows-ok-requires c κs = search needs
-
-cells-refused-requires : tie.Need-cells-refused-requires
-cells-refused-requires c κs = search needs
-
 returns : tie.Need-returns
 returns c = start-wrong _ _ _ _ (c .before .before .before .plan .ensures) (refused-test (c .before .before .rows-ok .ensures) (c .before .if1 .taken)) (c .cells-refused .ensures)
-
-power-on-requires : tie.Need-power-on-requires
-power-on-requires c κs = search needs
-
-number-requires : tie.Need-number-requires
-number-requires c κs = search needs
-
-code-requires : tie.Need-code-requires
-code-requires c κs = search needs
 
 returns-2 : tie.Need-returns-2
 returns-2 c = start-plan _ _ _ _ (c .before .before .before .before .before .before .plan .ensures) (passed-test (c .before .before .before .before .before .rows-ok .ensures) (c .before .before .before .before .if1 .left)) (c .before .before .before .power-on .ensures) (system-refused _ (c .before .before .number .ensures) (c .before .before .before .power-on .ensures) (c .before .if2 .taken)) (c .code .ensures)
 
 put-system-requires : tie.Need-put-system-requires
 put-system-requires c κs = passed-test (c .before .before .before .before .before .before .before .rows-ok .ensures) (c .before .before .before .before .before .before .if1 .left)
-
-code-requires-2 : tie.Need-code-requires-2
-code-requires-2 c κs = search needs
-
-same-length : tie.Need-same-length
-same-length c = search needs
-
-same-length-2 : tie.Need-same-length-2
-same-length-2 c = search needs
-
-same-length-3 : tie.Need-same-length-3
-same-length-3 c = search needs
 
 returns-3 : tie.Need-returns-3
 returns-3 c = start-made _ _ _ _ (c .before .before .before .before .before .before .before .before .before .before .before .before .before .before .before .before .plan .ensures) (passed-test (c .before .before .before .before .before .before .before .before .before .before .before .before .before .before .before .rows-ok .ensures) (c .before .before .before .before .before .before .before .before .before .before .before .before .before .before .if1 .left)) (c .before .before .before .before .before .before .before .before .before .before .before .before .before .power-on .ensures) (system-passed _ (c .before .before .before .before .before .before .before .before .before .before .before .before .number .ensures) (c .before .before .before .before .before .before .before .before .before .before .before .before .before .power-on .ensures) (c .before .before .before .before .before .before .before .before .before .before .before .if2 .left)) (c .code2 .ensures) (c .before .before .before .before .before .before .before .put-system .ensures)
@@ -51,17 +21,17 @@ pub ragbasalt-system-power-on-spec : {M : Type 1} → statement M
 ragbasalt-system-power-on-spec =
     tie.close
     (tie.spec
-    plan-requires
-    rows-ok-requires
-    cells-refused-requires
+    (λ c κs. search needs)
+    (λ c κs. search needs)
+    (λ c κs. search needs)
     returns
-    power-on-requires
-    number-requires
-    code-requires
+    (λ c κs. search needs)
+    (λ c κs. search needs)
+    (λ c κs. search needs)
     returns-2
     put-system-requires
-    code-requires-2
-    same-length
-    same-length-2
-    same-length-3
+    (λ c κs. search needs)
+    (λ c. search needs)
+    (λ c. search needs)
+    (λ c. search needs)
     returns-3)

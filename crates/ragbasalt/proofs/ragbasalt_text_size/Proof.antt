@@ -7,12 +7,6 @@ use Rattle.ragbasalt.proofs.CallLaws.{size-none, size-given}
 use Rattle.ragbasalt.proofs.ragbasalt_text_size.Statement.{statement}
 use Rattle.ragbasalt.proofs.ragbasalt_text_size.Tie as tie
 
-plan-requires : tie.Need-plan-requires
-plan-requires c κs = search needs
-
-accepted-period-requires : tie.Need-accepted-period-requires
-accepted-period-requires c κs = search needs
-
 returns : tie.Need-returns
 returns c = size-none _ (c .before .before .plan .ensures) (λ p. length (planText p)) (refused-of-period _ (c .before .accepted-period .ensures) (c .if1 .taken))
 
@@ -25,4 +19,4 @@ returns-2 c = size-given _ (c .before .before .before .plan .ensures) (λ p. len
 pub ragbasalt-text-size-spec : {M : Type 1} → statement M
 ragbasalt-text-size-spec =
     tie.close
-    (tie.spec plan-requires accepted-period-requires returns text-size-requires returns-2)
+    (tie.spec (λ c κs. search needs) (λ c κs. search needs) returns text-size-requires returns-2)

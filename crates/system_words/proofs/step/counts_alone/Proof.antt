@@ -1,5 +1,4 @@
 -- `system_words::step::counts_alone` meets its contract.
-use mathlib.Core.Path.{_≡_}
 use borrow.Author.Needs.{needs}
 use Rattle.system_words.proofs.WordsLaws.{counts-kept, counts-none}
 use Rattle.system_words.proofs.step.counts_alone.Statement.{statement}

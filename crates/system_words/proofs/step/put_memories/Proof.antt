@@ -1,12 +1,11 @@
 -- `system_words::step::put_memories` meets its contract: the rows of the first j memories are written.
-use mathlib.Core.Path.{_≡_, refl, sym, ap, _∙_}
-use Prim.Native.Nat.{_+_, _-_, _*_, _≤_}
+use mathlib.Core.Path.{_≡_}
+use Prim.Native.Nat.{_-_, _≤_}
 use native.Mathlib.Omega.{arith}
 use lib.ListN.{length}
 use borrow.Author.Needs.{needs}
 use Rattle.array.proofs.LoopLaws.{any-default, length-mapped}
-use Rattle.plan.specs.Limits.{mostNodes, mostCells}
-use Rattle.system.specs.Frame.{memoryOf}
+use Rattle.plan.specs.Limits.{mostNodes}
 use Rattle.system_words.specs.Words.{patternCount}
 use Rattle.system_words.proofs.WordsLaws.{PutTo, put-none, put-next, put-all}
 use Rattle.system_words.proofs.step.put_memories.Statement.{statement}

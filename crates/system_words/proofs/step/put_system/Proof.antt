@@ -1,5 +1,4 @@
 -- `system_words::step::put_system` meets its contract.
-use mathlib.Core.Path.{_≡_}
 use borrow.Author.Needs.{needs}
 use Rattle.system_words.proofs.WordsLaws.{rows-lengths}
 use Rattle.system_words.proofs.step.put_system.Statement.{statement}
