@@ -35,9 +35,8 @@ use Rattle.system.specs.declared.System.{System}
 use Rattle.memory.specs.Node.{zeroMemory}
 use Rattle.system.specs.System.{zeroSystem}
 use Rattle.system.specs.Frame.{memoryOf}
-use Rattle.rows.specs.Code.{rowOf, memoryIn}
 use Rattle.rows.proofs.RowLaws.{fill-copied}
-use Rattle.system_words.specs.Words.{codeOf, patternCount, rowsOk, systemOfWords, countersOf, patternsOf, countsAlone}
+use Rattle.system_words.specs.Words.{codeOf, patternCount, rowsOk, nodeOfWords, systemOfWords, countersOf, patternsOf, countsAlone}
 
 -- ---- answers
 
@@ -135,7 +134,7 @@ module _ (sys : System) (counters₀ cells₀ : List ℕ) where
 pub system-made :
     (counters cells good : List ℕ) {z : Memory} {memories : List Memory} {counts : List ℕ} →
     z ≡ zeroMemory →
-    memories ≡ fill (memoryIn counters cells) mostNodes (replicate mostNodes z) →
+    memories ≡ fill (nodeOfWords counters cells) mostNodes (replicate mostNodes z) →
     counts ≡ good →
     _≡_ {A = System} (record { memories = memories; good = counts }) (systemOfWords counters cells good)
 unfolding systemOfWords
@@ -155,9 +154,9 @@ module _ (counters cells good : List ℕ) where
   abbrev sys : System
   sys = systemOfWords counters cells good
 
-  node-made : (j : ℕ) → j < mostNodes → memoryOf sys j ≡ memoryIn counters cells j
+  node-made : (j : ℕ) → j < mostNodes → memoryOf sys j ≡ nodeOfWords counters cells j
   unfolding systemOfWords
-  node-made j l = fill-in (memoryIn counters cells) mostNodes (zeroSystem .memories) j zeroMemory l (omega (arith, l, length-replicate mostNodes zeroMemory))
+  node-made j l = fill-in (nodeOfWords counters cells) mostNodes (zeroSystem .memories) j zeroMemory l (omega (arith, l, length-replicate mostNodes zeroMemory))
 
   pub counters-back : length counters ≡ mostNodes → countersOf sys ≡ counters
   unfolding countersOf
@@ -166,8 +165,8 @@ module _ (counters cells good : List ℕ) where
       ∙ sym (filled-joined (λ j. getD counters j 0) mostNodes counters e)
       ∙ fill-copied counters counters mostNodes e e
 
-  rows-joined : (n : ℕ) → joined (rowOf cells) n ≡ take (mostCells * n) cells
-  unfolding joined rowOf
+  rows-joined : (n : ℕ) → joined (λ j. take mostCells (drop (mostCells * j) cells)) n ≡ take (mostCells * n) cells
+  unfolding joined
   rows-joined zero = refl
   rows-joined (suc n) =
       ap (λ (x : List ℕ). x ++ take mostCells (drop (mostCells * n) cells)) (rows-joined n)
@@ -177,7 +176,7 @@ module _ (counters cells good : List ℕ) where
   pub patterns-back : length cells ≡ patternCount → patternsOf sys ≡ cells
   unfolding patternsOf
   patterns-back e =
-      joined-same (λ j. memoryOf sys j .cells) (rowOf cells) mostNodes (λ j l. ap (λ (m : Memory). m .cells) (node-made j l))
+      joined-same (λ j. memoryOf sys j .cells) (λ j. take mostCells (drop (mostCells * j) cells)) mostNodes (λ j l. ap (λ (m : Memory). m .cells) (node-made j l))
       ∙ rows-joined mostNodes
       ∙ ap (λ (k : ℕ). take k cells) (sym e)
       ∙ take-length cells

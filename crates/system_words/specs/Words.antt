@@ -3,7 +3,7 @@ use mathlib.Core.Bool.{Bool, cond, _&&_}
 use mathlib.Core.List.{List, [], _∷_}
 use Prim.Native.Nat.{ℕ, _+_, _*_, _%_, _^_}
 use lib.Dec.{eqb}
-use lib.ListN.{length, replicate}
+use lib.ListN.{length, getD, take, drop, replicate}
 use Rattle.array.specs.Index.{fill, joined}
 use Rattle.answer.specs.declared.Answer.{Answer}
 use Rattle.answer.specs.Refusal.{numberOf, lineOf}
@@ -12,7 +12,6 @@ use Rattle.memory.specs.declared.Memory.{Memory}
 use Rattle.system.specs.declared.System.{System}
 use Rattle.system.specs.System.{zeroSystem}
 use Rattle.system.specs.Frame.{memoryOf}
-use Rattle.rows.specs.Code.{memoryIn}
 
 -- number + 256 × line, in 64 bits
 unfoldable pub codeOf : Answer → ℕ
@@ -31,8 +30,12 @@ patternCount = mostNodes * mostCells
 unfoldable pub rowsOk : ℕ → ℕ → ℕ → Bool
 rowsOk counters cells good = eqb counters mostNodes && (eqb cells patternCount && eqb good mostNodes)
 
+-- node j's memory
+abbrev pub nodeOfWords : List ℕ → List ℕ → ℕ → Memory
+nodeOfWords counters cells j = record { counter = getD counters j 0; cells = take mostCells (drop (mostCells * j) cells) }
+
 unfoldable pub systemOfWords : List ℕ → List ℕ → List ℕ → System
-systemOfWords counters cells good = record { memories = fill (memoryIn counters cells) mostNodes (zeroSystem .memories); good = good }
+systemOfWords counters cells good = record { memories = fill (nodeOfWords counters cells) mostNodes (zeroSystem .memories); good = good }
 
 unfoldable pub countersOf : System → List ℕ
 countersOf sys = joined (λ j. memoryOf sys j .counter ∷ []) mostNodes

@@ -5,8 +5,7 @@ ghost use Prim.Native.Nat.{_*_, _<_};
 ghost use lib.ListN.{length, set};
 ghost use Rattle.array.specs.Place.{placed};
 ghost use Rattle.plan.specs.Limits.{mostNodes, mostCells};
-ghost use Rattle.rows.specs.Code.{memoryIn};
-ghost use Rattle.system_words.specs.Words.{codeOf, memoryOfWords, patternCount, rowsOk, systemOfWords, countersOf, patternsOf, countsAlone};
+ghost use Rattle.system_words.specs.Words.{codeOf, memoryOfWords, patternCount, rowsOk, nodeOfWords, systemOfWords, countersOf, patternsOf, countsAlone};
 use answer::Answer;
 use memory::Memory;
 use plan::Plan;
@@ -80,7 +79,7 @@ fn counts(good: &[u16]) -> [u16; System::NODES]
 // Node j's memory.
 fn node(counters: &[u16], cells: &[u64], j: usize) -> Memory
     requires { ⌜ (length (now counters) ≡ mostNodes) × (length (now cells) ≡ patternCount) × (j < mostNodes) ⌝ }
-    ensures { λ r. ⌜ r ≡ memoryIn (now (counters .entry)) (now (cells .entry)) j ⌝ }
+    ensures { λ r. ⌜ r ≡ nodeOfWords (now (counters .entry)) (now (cells .entry)) j ⌝ }
 {
     let at = Plan::CELLS * j;
     memory(counters[j], &cells[at..at + Plan::CELLS])

@@ -5,13 +5,11 @@ use native.Mathlib.Omega.{arith}
 use lib.ListN.{take, drop}
 use borrow.Author.Needs.{needs}
 use Rattle.plan.specs.Limits.{mostCells}
-use Rattle.rows.specs.Code.{rowOf}
 use Rattle.rows.proofs.RowLaws.{memory-eq}
 use Rattle.system_words.proofs.step.node.Statement.{statement}
 use Rattle.system_words.proofs.step.node.Tie as tie
 
 returns : tie.Need-returns
-unfolding rowOf
 returns c = let a = c .before .before .before .before .before .args in
     let z : mostCells * a .j + mostCells - mostCells * a .j ≡ mostCells = omega arith in
     c .memory .ensures ∙ memory-eq refl (ap (λ (n : ℕ). take n (drop (mostCells * a .j) (a .cells .now))) z)

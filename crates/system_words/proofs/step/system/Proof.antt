@@ -7,13 +7,13 @@ use Rattle.array.specs.Index.{fill}
 use Rattle.array.proofs.PlacesLaws.{fill-none}
 use Rattle.array.proofs.LoopLaws.{stored-next, stored-all}
 use Rattle.plan.specs.Limits.{mostNodes}
-use Rattle.rows.specs.Code.{memoryIn}
+use Rattle.system_words.specs.Words.{nodeOfWords}
 use Rattle.system_words.proofs.WordsLaws.{rows-lengths, system-made}
 use Rattle.system_words.proofs.step.system.Statement.{statement}
 use Rattle.system_words.proofs.step.system.Tie as tie
 
 abbrev Inv-loop : tie.InvT-loop
-Inv-loop counters cells good values memories₀ j₀ memories j = (j ≤ mostNodes) × (memories ≡ fill (memoryIn counters cells) j memories₀)
+Inv-loop counters cells good values memories₀ j₀ memories j = (j ≤ mostNodes) × (memories ≡ fill (nodeOfWords counters cells) j memories₀)
 
 abbrev μ-loop : tie.MeasureT-loop
 μ-loop counters cells good values memories₀ j₀ memories j = mostNodes - j
