@@ -41,29 +41,29 @@ use Rattle.system.specs.System.{powerOn, systemPowerOnAnswer}
 use Rattle.system.specs.Frame.{maskOk, countsOk, lengthsOk, singleTests, singleAnswer, singlePlaceAfter, frameTests as systemTests, frameAnswer, framePlace, workingTests as systemWorkingTests, workingAnswer, equalTests as systemEqualTests, equalAnswer}
 use Rattle.system_words.specs.Words.{codeOf, memoryOfWords, patternCount, rowsOk, systemOfWords, countersOf, patternsOf, countsAlone}
 use Rattle.system_words.proofs.WordsLaws.{rows-lengths, counters-back, patterns-back, good-back}
-use Rattle.ragbasalt.specs.Calls.{readCall, wordsTests, Counted, Frame, counted, placedAt, writtenAt, stored, single, rows, frame, writeCall, checkCall, periodCall, sizeCall, nodeTests, cellsRefused, memoryCall, placeCall, powerOnCall, computeCall, voteCall, messageCall, setpointsCall, singleRight, singleCall, countsTests, rowsRight, startTests, startCall, frameTests, frameCall, equalTests, equalCall, workingTests, workingCall}
+use Rattle.ragbasalt.specs.Calls.{readCall, wordsTests, CountGiven, FrameGiven, countGiven, placeGiven, textGiven, memoryGiven, singleGiven, rowsGiven, frameGiven, writeCall, checkCall, periodCall, sizeCall, nodeTests, cellsRefused, memoryCall, placeCall, powerOnCall, computeCall, voteCall, messageCall, setpointsCall, singleRight, singleCall, countsTests, rowsRight, startCallTests, startCall, frameCallTests, frameCall, equalCallTests, equalCall, workingCallTests, workingCall}
 
 -- ---- results by their parts
 
-pub counted-eq : {a b m n : ℕ} → a ≡ b → m ≡ n → counted a m ≡ counted b n
+pub counted-eq : {a b m n : ℕ} → a ≡ b → m ≡ n → countGiven a m ≡ countGiven b n
 counted-eq e f = λ i. record { answer = e i; count = f i }
 
-pub placed-eq : {a b : ℕ} {s t : List ℕ} → a ≡ b → s ≡ t → placedAt a s ≡ placedAt b t
+pub placed-eq : {a b : ℕ} {s t : List ℕ} → a ≡ b → s ≡ t → placeGiven a s ≡ placeGiven b t
 placed-eq e f = λ i. record { answer = e i; place = f i }
 
-pub written-eq : {a b m n : ℕ} {s t : List ℕ} → a ≡ b → s ≡ t → m ≡ n → writtenAt a s m ≡ writtenAt b t n
+pub written-eq : {a b m n : ℕ} {s t : List ℕ} → a ≡ b → s ≡ t → m ≡ n → textGiven a s m ≡ textGiven b t n
 written-eq e f g = λ i. record { answer = e i; text = f i; count = g i }
 
-pub stored-eq : {a b m n : ℕ} {s t : List ℕ} → a ≡ b → m ≡ n → s ≡ t → stored a m s ≡ stored b n t
+pub stored-eq : {a b m n : ℕ} {s t : List ℕ} → a ≡ b → m ≡ n → s ≡ t → memoryGiven a m s ≡ memoryGiven b n t
 stored-eq e f g = λ i. record { answer = e i; counter = f i; cells = g i }
 
-pub single-eq : {a b m n : ℕ} {s t u v : List ℕ} → a ≡ b → m ≡ n → s ≡ t → u ≡ v → single a m s u ≡ single b n t v
+pub single-eq : {a b m n : ℕ} {s t u v : List ℕ} → a ≡ b → m ≡ n → s ≡ t → u ≡ v → singleGiven a m s u ≡ singleGiven b n t v
 single-eq e f g h = λ i. record { answer = e i; counter = f i; cells = g i; place = h i }
 
-pub rows-eq : {a b : ℕ} {s t u v w x : List ℕ} → a ≡ b → s ≡ t → u ≡ v → w ≡ x → rows a s u w ≡ rows b t v x
+pub rows-eq : {a b : ℕ} {s t u v w x : List ℕ} → a ≡ b → s ≡ t → u ≡ v → w ≡ x → rowsGiven a s u w ≡ rowsGiven b t v x
 rows-eq e f g h = λ i. record { answer = e i; counters = f i; cells = g i; good = h i }
 
-pub frame-eq : {a b : ℕ} {s t u v w x y z : List ℕ} → a ≡ b → s ≡ t → u ≡ v → w ≡ x → y ≡ z → frame a s u w y ≡ frame b t v x z
+pub frame-eq : {a b : ℕ} {s t u v w x y z : List ℕ} → a ≡ b → s ≡ t → u ≡ v → w ≡ x → y ≡ z → frameGiven a s u w y ≡ frameGiven b t v x z
 frame-eq e f g h k = λ i. record { answer = e i; counters = f i; cells = g i; good = h i; place = k i }
 
 -- ---- tests
@@ -153,19 +153,19 @@ module _ (p : Plan) where
       unfolding nodeTests
       still new old = sym (kept new old wrong)
 
-      pub memory-wrong : (new : Memory) {n : ℕ} → n ≡ codeOf (cellsRefused p) → stored n counter cells ≡ memoryCall p counter cells right new
+      pub memory-wrong : (new : Memory) {n : ℕ} → n ≡ codeOf (cellsRefused p) → memoryGiven n counter cells ≡ memoryCall p counter cells right new
       unfolding memoryCall
       memory-wrong new e = stored-eq (answer-wrong e) (still _ _) (still _ _)
 
-      pub place-wrong : (new out : List ℕ) {n : ℕ} → n ≡ codeOf (cellsRefused p) → placedAt n out ≡ placeCall p cells right new out
+      pub place-wrong : (new out : List ℕ) {n : ℕ} → n ≡ codeOf (cellsRefused p) → placeGiven n out ≡ placeCall p cells right new out
       unfolding placeCall
       place-wrong new out e = placed-eq (answer-wrong e) (still _ _)
 
       pub both-wrong :
           (new : Memory) (place out : List ℕ) {n : ℕ} →
           n ≡ codeOf (cellsRefused p) →
-          single n counter cells out
-          ≡ single (codeOf (answered (nodeTests p cells right))) (ifPassed (nodeTests p cells right) (new .counter) counter) (ifPassed (nodeTests p cells right) (new .cells) cells)
+          singleGiven n counter cells out
+          ≡ singleGiven (codeOf (answered (nodeTests p cells right))) (ifPassed (nodeTests p cells right) (new .counter) counter) (ifPassed (nodeTests p cells right) (new .cells) cells)
           (ifPassed (nodeTests p cells right) place out)
       both-wrong new place out e = single-eq (answer-wrong e) (still _ _) (still _ _) (still _ _)
 
@@ -187,7 +187,7 @@ module _ (p : Plan) where
           a ≡ answered (lengthOnly right) →
           (x ≡ m .counter) × (y ≡ m .cells) →
           m ≡ ifPassed (lengthOnly right) new (memoryOfWords counter cells) →
-          stored n x y ≡ memoryCall p counter cells right new
+          memoryGiven n x y ≡ memoryCall p counter cells right new
       unfolding memoryCall
       memory-right new e f (g, h) k = stored-eq (answer-right e f) (part-right (λ (z : Memory). z .counter) new _ g k) (part-right (λ (z : Memory). z .cells) new _ h k)
 
@@ -196,7 +196,7 @@ module _ (p : Plan) where
           n ≡ codeOf a →
           a ≡ answered (lengthOnly right) →
           y ≡ ifPassed (lengthOnly right) new out →
-          placedAt n y ≡ placeCall p cells right new out
+          placeGiven n y ≡ placeCall p cells right new out
       unfolding placeCall
       place-right new out e f k = placed-eq (answer-right e f) (part-right (λ (z : List ℕ). z) new out refl k)
 
@@ -207,8 +207,8 @@ module _ (p : Plan) where
           (x ≡ m .counter) × (y ≡ m .cells) →
           m ≡ ifPassed (lengthOnly right) new (memoryOfWords counter cells) →
           z ≡ ifPassed (lengthOnly right) place out →
-          single n x y z
-          ≡ single (codeOf (answered (nodeTests p cells right))) (ifPassed (nodeTests p cells right) (new .counter) counter) (ifPassed (nodeTests p cells right) (new .cells) cells)
+          singleGiven n x y z
+          ≡ singleGiven (codeOf (answered (nodeTests p cells right))) (ifPassed (nodeTests p cells right) (new .counter) counter) (ifPassed (nodeTests p cells right) (new .cells) cells)
           (ifPassed (nodeTests p cells right) place out)
       both-right new place out e f (g, h) k l =
           single-eq (answer-right e f) (part-right (λ (z : Memory). z .counter) new _ g k) (part-right (λ (z : Memory). z .cells) new _ h k) (part-right (λ (z : List ℕ). z) place out refl l)
@@ -220,27 +220,27 @@ module _ (words : List ℕ) (counter : ℕ) (cells : List ℕ) {p : Plan} (is : 
     at : n ≡ codeOf (cellsRefused (planOfWords words))
     at = rw is at e
 
-    pub power-on-wrong : stored n counter cells ≡ powerOnCall words counter cells
+    pub power-on-wrong : memoryGiven n counter cells ≡ powerOnCall words counter cells
     unfolding powerOnCall
     power-on-wrong = memory-wrong _ counter cells true ne _ at
 
-    pub compute-wrong : (sensors : List ℕ) → stored n counter cells ≡ computeCall words counter cells sensors
+    pub compute-wrong : (sensors : List ℕ) → memoryGiven n counter cells ≡ computeCall words counter cells sensors
     unfolding computeCall
     compute-wrong sensors = memory-wrong _ counter cells _ ne _ at
 
-    pub vote-wrong : (box : List ℕ) → stored n counter cells ≡ voteCall words counter cells box
+    pub vote-wrong : (box : List ℕ) → memoryGiven n counter cells ≡ voteCall words counter cells box
     unfolding voteCall
     vote-wrong box = memory-wrong _ counter cells _ ne _ at
 
-    pub message-wrong : (out : List ℕ) → placedAt n out ≡ messageCall words counter cells out
+    pub message-wrong : (out : List ℕ) → placeGiven n out ≡ messageCall words counter cells out
     unfolding messageCall
     message-wrong out = place-wrong _ counter cells _ ne _ out at
 
-    pub setpoints-wrong : (out : List ℕ) → placedAt n out ≡ setpointsCall words counter cells out
+    pub setpoints-wrong : (out : List ℕ) → placeGiven n out ≡ setpointsCall words counter cells out
     unfolding setpointsCall
     setpoints-wrong out = place-wrong _ counter cells _ ne _ out at
 
-    pub single-wrong : (sensors out : List ℕ) → single n counter cells out ≡ singleCall words counter cells sensors out
+    pub single-wrong : (sensors out : List ℕ) → singleGiven n counter cells out ≡ singleCall words counter cells sensors out
     unfolding singleCall
     single-wrong sensors out = both-wrong _ counter cells _ ne _ _ out at
 
@@ -250,7 +250,7 @@ module _ (words : List ℕ) (counter : ℕ) (cells : List ℕ) {p : Plan} (is : 
         o ≡ computeAnswer p m sensors →
         n ≡ codeOf (o .answer) →
         (x ≡ o .memory .counter) × (y ≡ o .memory .cells) →
-        stored n x y ≡ computeCall words counter cells sensors
+        memoryGiven n x y ≡ computeCall words counter cells sensors
     unfolding computeCall computeAnswer lengthChecked lengthTests
     compute-made sensors e f g =
         let h = rw (is, own) at e in memory-right _ counter cells _ eq _ f (ap (λ (z : Outcome). z .answer) h) g (ap (λ (z : Outcome). z .memory) h)
@@ -260,7 +260,7 @@ module _ (words : List ℕ) (counter : ℕ) (cells : List ℕ) {p : Plan} (is : 
         o ≡ voteAnswer p m box →
         n ≡ codeOf (o .answer) →
         (x ≡ o .memory .counter) × (y ≡ o .memory .cells) →
-        stored n x y ≡ voteCall words counter cells box
+        memoryGiven n x y ≡ voteCall words counter cells box
     unfolding voteCall voteAnswer lengthChecked lengthTests
     vote-made box e f g =
         let h = rw (is, own) at e in memory-right _ counter cells _ eq _ f (ap (λ (z : Outcome). z .answer) h) g (ap (λ (z : Outcome). z .memory) h)
@@ -269,7 +269,7 @@ module _ (words : List ℕ) (counter : ℕ) (cells : List ℕ) {p : Plan} (is : 
         (out : List ℕ) {a : Answer} {n : ℕ} {y : List ℕ} →
         (a ≡ lengthChecked p (length out) (messageSize p)) × (y ≡ messagePlace p m out) →
         n ≡ codeOf a →
-        placedAt n y ≡ messageCall words counter cells out
+        placeGiven n y ≡ messageCall words counter cells out
     unfolding messageCall messagePlace lengthChecked lengthTests
     message-made out e f = let h = rw (is, own) at e in place-right _ counter cells _ eq _ out f (h .0) (h .1)
 
@@ -277,7 +277,7 @@ module _ (words : List ℕ) (counter : ℕ) (cells : List ℕ) {p : Plan} (is : 
         (out : List ℕ) {a : Answer} {n : ℕ} {y : List ℕ} →
         (a ≡ lengthChecked p (length out) (p .actuators)) × (y ≡ setpointPlace p m out) →
         n ≡ codeOf a →
-        placedAt n y ≡ setpointsCall words counter cells out
+        placeGiven n y ≡ setpointsCall words counter cells out
     unfolding setpointsCall setpointPlace lengthChecked lengthTests
     setpoints-made out e f = let h = rw (is, own) at e in place-right _ counter cells _ eq _ out f (h .0) (h .1)
 
@@ -286,7 +286,7 @@ module _ (words : List ℕ) (counter : ℕ) (cells : List ℕ) {p : Plan} (is : 
         (o ≡ singleAnswer p m sensors out) × (z ≡ singlePlaceAfter p m sensors out) →
         n ≡ codeOf (o .answer) →
         (x ≡ o .memory .counter) × (y ≡ o .memory .cells) →
-        single n x y z ≡ singleCall words counter cells sensors out
+        singleGiven n x y z ≡ singleCall words counter cells sensors out
     unfolding singleCall singleRight singleAnswer singlePlaceAfter singleTests
     single-made sensors out e f g =
         let h = rw (is, own) at e in
@@ -298,14 +298,14 @@ module _ (words : List ℕ) (counter : ℕ) (cells : List ℕ) {p : Plan} (is : 
   begun : o ≡ powerOnAnswer (planOfWords words)
   begun = rw is at e
 
-  pub power-on-plan : accepted p ≡ false → {n : ℕ} → n ≡ codeOf (o .answer) → stored n counter cells ≡ powerOnCall words counter cells
+  pub power-on-plan : accepted p ≡ false → {n : ℕ} → n ≡ codeOf (o .answer) → memoryGiven n counter cells ≡ powerOnCall words counter cells
   unfolding powerOnCall powerOnAnswer checked planTests answered answerOf passed ifPassed
   power-on-plan t f =
       let u : accepted (planOfWords words) ≡ false = rw is at t in
       memory-right _ counter cells true eq _ f (ap (λ (z : Outcome). z .answer) begun ∙ rw u) (refl, refl) (rw u)
 
   pub power-on-made :
-      accepted p ≡ true → {n x : ℕ} {y : List ℕ} → n ≡ codeOf Done → (x ≡ o .memory .counter) × (y ≡ o .memory .cells) → stored n x y ≡ powerOnCall words counter cells
+      accepted p ≡ true → {n x : ℕ} {y : List ℕ} → n ≡ codeOf Done → (x ≡ o .memory .counter) × (y ≡ o .memory .cells) → memoryGiven n x y ≡ powerOnCall words counter cells
   unfolding powerOnCall powerOnAnswer checked planTests answered answerOf passed ifPassed
   power-on-made t f g =
       let u : accepted (planOfWords words) ≡ true = rw is at t in
@@ -318,7 +318,7 @@ module _ (words : List ℕ) {p : Plan} (is : p ≡ planOfWords words) where
   unfolding checkCall
   check-made e f = f ∙ ap codeOf (rw is at e)
 
-  pub period-made : {o : PeriodFound} {n : ℕ} → o ≡ periodFound p → n ≡ codeOf (o .answer) → counted n (o .period) ≡ periodCall words
+  pub period-made : {o : PeriodFound} {n : ℕ} → o ≡ periodFound p → n ≡ codeOf (o .answer) → countGiven n (o .period) ≡ periodCall words
   unfolding periodCall
   period-made e f = let h = rw is at e in counted-eq (f ∙ ap (λ (z : PeriodFound). codeOf (z .answer)) h) (ap (λ (z : PeriodFound). z .period) h)
 
@@ -326,7 +326,7 @@ module _ (words : List ℕ) {p : Plan} (is : p ≡ planOfWords words) where
       (out : List ℕ) {o : TextWritten} {n : ℕ} {y : List ℕ} →
       (o ≡ writeAnswer p (length out)) × (y ≡ writePlace p out) →
       n ≡ codeOf (o .answer) →
-      writtenAt n y (o .count) ≡ writeCall words out
+      textGiven n y (o .count) ≡ writeCall words out
   unfolding writeCall
   write-made out e f =
       let h = rw is at e in
@@ -362,24 +362,24 @@ module _ (s words : List ℕ) {o : PlanRead} {k : ℕ} (e : o ≡ readAnswer s) 
   unfolding readPeriod
   read-accepted t = accepted-of-period (o .plan) (f ∙ ap (λ (x : PlanRead). acceptedPeriod (x .plan)) (sym e)) t
 
-  pub read-refused : k ≡ 0 → {n : ℕ} → n ≡ codeOf (o .answer) → placedAt n words ≡ readCall s words
+  pub read-refused : k ≡ 0 → {n : ℕ} → n ≡ codeOf (o .answer) → placeGiven n words ≡ readCall s words
   unfolding readCall unlessRefused
   read-refused z {n} g = by (textRefusal s) refl
     where
       by :
           (r : Option Answer) →
           textRefusal s ≡ r →
-          placedAt n words
-          ≡ placedAt (codeOf (unlessRefused r (answered (wordsTests (length words))) (readAnswer s .answer))) (unlessRefused r (ifPassed (wordsTests (length words)) (planWords (planOf s)) words) words)
+          placeGiven n words
+          ≡ placeGiven (codeOf (unlessRefused r (answered (wordsTests (length words))) (readAnswer s .answer))) (unlessRefused r (ifPassed (wordsTests (length words)) (planWords (planOf s)) words) words)
       by none h = absurd (clash (read-plan s h) (refused-of-period (planOf s) (f ∙ period-read h) z))
       by (some a) h = placed-eq (g ∙ ap (λ (x : PlanRead). codeOf (x .answer)) e) refl
 
   module _ (t : k ≡ 0 → ⊥) where
-    pub read-length : (length words ≡ planSize → ⊥) → {n : ℕ} → n ≡ codeOf WrongLength → placedAt n words ≡ readCall s words
+    pub read-length : (length words ≡ planSize → ⊥) → {n : ℕ} → n ≡ codeOf WrongLength → placeGiven n words ≡ readCall s words
     unfolding readCall unlessRefused wordsTests answered answerOf ifPassed passed
     read-length l g = rw (none-refused t, ne-eqb (length words) planSize l) (placed-eq g refl)
 
-    pub read-done : length words ≡ planSize → {n : ℕ} {y : List ℕ} → n ≡ codeOf Done → y ≡ planWords (o .plan) → placedAt n y ≡ readCall s words
+    pub read-done : length words ≡ planSize → {n : ℕ} {y : List ℕ} → n ≡ codeOf Done → y ≡ planWords (o .plan) → placeGiven n y ≡ readCall s words
     unfolding readCall unlessRefused wordsTests answered answerOf ifPassed passed readAnswer
     read-done l g h = rw (none-refused t, eq-eqb (length words) planSize l) (placed-eq g (h ∙ ap (λ (x : PlanRead). planWords (x .plan)) e ∙ rw (none-refused t)))
 
@@ -429,8 +429,8 @@ module _ (words counters cells good : List ℕ) {p : Plan} (is : p ≡ planOfWor
 
   -- the rows' lengths are wrong
   module _ (w : rowsRight words counters cells good ≡ false) where
-    pub start-wrong : {n : ℕ} → n ≡ codeOf (cellsRefused p) → rows n counters cells good ≡ startCall words counters cells good
-    unfolding startCall startTests cellsRefused
+    pub start-wrong : {n : ℕ} → n ≡ codeOf (cellsRefused p) → rowsGiven n counters cells good ≡ startCall words counters cells good
+    unfolding startCall startCallTests cellsRefused
     start-wrong e =
         let g = rw is at e in
         rows-eq (g ∙ ap (λ (b : Bool). codeOf (answered (lengthOnly q b))) (sym w)) (sym (kept q _ _ w)) (sym (kept q _ _ w)) (sym (kept q _ _ w))
@@ -438,8 +438,8 @@ module _ (words counters cells good : List ℕ) {p : Plan} (is : p ≡ planOfWor
     pub frame-wrong :
         (sensors : List ℕ) (mask : ℕ) (faults out : List ℕ) {n : ℕ} →
         n ≡ codeOf (answered (countsTests p good mask false)) →
-        frame n counters cells good out ≡ frameCall words counters cells good sensors mask faults out
-    unfolding frameCall frameTests
+        frameGiven n counters cells good out ≡ frameCall words counters cells good sensors mask faults out
+    unfolding frameCall frameCallTests
     frame-wrong sensors mask faults out e =
         let g = rw is at e in
         let v = and-false-left (lengthsOk q (length sensors) (length faults) (length out)) w in
@@ -449,8 +449,8 @@ module _ (words counters cells good : List ℕ) {p : Plan} (is : p ≡ planOfWor
       (counter : ℕ) (own : List ℕ) {n : ℕ} →
       (rowsRight words counters cells good && eqb (length own) mostCells) ≡ false →
       n ≡ codeOf (answered (countsTests p good 0 false)) →
-      counted n 0 ≡ equalCall words counters cells good counter own
-  unfolding equalCall equalTests
+      countGiven n 0 ≡ equalCall words counters cells good counter own
+  unfolding equalCall equalCallTests
   equal-wrong counter own v e = counted-eq (counts-wrong q good 0 v (rw is at e)) (counts-kept q good 0 v _ _)
 
 -- the counts alone are those of the record
@@ -464,8 +464,8 @@ module _ (p : Plan) (good : List ℕ) (l : length good ≡ mostNodes) where
   counts-same sys e = ap (λ (g : List ℕ). countsOk p (record { memories = []; good = g })) (counts-good ∙ sym e)
 
 module _ (words good : List ℕ) (mask : ℕ) {p : Plan} (is : p ≡ planOfWords words) where
-  pub working-wrong : (length good ≡ mostNodes → ⊥) → {n : ℕ} → n ≡ codeOf (answered (countsTests p good mask false)) → counted n 0 ≡ workingCall words good mask
-  unfolding workingCall workingTests
+  pub working-wrong : (length good ≡ mostNodes → ⊥) → {n : ℕ} → n ≡ codeOf (answered (countsTests p good mask false)) → countGiven n 0 ≡ workingCall words good mask
+  unfolding workingCall workingCallTests
   working-wrong l e =
       let v = ne-eqb (length good) mostNodes l in
       counted-eq (counts-wrong (planOfWords words) good mask v (rw is at e)) (counts-kept (planOfWords words) good mask v _ _)
@@ -476,8 +476,8 @@ module _ (words good : List ℕ) (mask : ℕ) {p : Plan} (is : p ≡ planOfWords
       sys ≡ countsAlone good →
       o ≡ workingAnswer p sys mask →
       n ≡ codeOf (o .answer) →
-      counted n (o .count) ≡ workingCall words good mask
-  unfolding workingCall workingTests countsTests workingAnswer systemWorkingTests answered passed ifPassed
+      countGiven n (o .count) ≡ workingCall words good mask
+  unfolding workingCall workingCallTests countsTests workingAnswer systemWorkingTests answered passed ifPassed
   working-made l e f g =
       let h = rw (is, e) at f in
       counted-eq (g ∙ ap (λ (z : SystemCounted). codeOf (z .answer)) h ∙ rw (eq-eqb (length good) mostNodes l))
@@ -508,8 +508,8 @@ module _ (words counters cells good : List ℕ) {p : Plan} (is : p ≡ planOfWor
     begun-system : o ≡ systemPowerOnAnswer r
     begun-system = rw is at e
 
-    pub start-plan : accepted p ≡ false → {n : ℕ} → n ≡ codeOf (o .answer) → rows n counters cells good ≡ startCall words counters cells good
-    unfolding startCall startTests systemPowerOnAnswer checked planTests answered answerOf passed ifPassed
+    pub start-plan : accepted p ≡ false → {n : ℕ} → n ≡ codeOf (o .answer) → rowsGiven n counters cells good ≡ startCall words counters cells good
+    unfolding startCall startCallTests systemPowerOnAnswer checked planTests answered answerOf passed ifPassed
     start-plan t f = let u : accepted r ≡ false = rw is at t in rw u (rows-eq (f ∙ ap (λ (z : Started). codeOf (z .answer)) begun-system ∙ rw u) refl refl refl)
 
     pub start-made :
@@ -517,8 +517,8 @@ module _ (words counters cells good : List ℕ) {p : Plan} (is : p ≡ planOfWor
         {n : ℕ} {x y z : List ℕ} →
         n ≡ codeOf Done →
         (x ≡ countersOf (o .system)) × (y ≡ patternsOf (o .system)) × (z ≡ o .system .good) →
-        rows n x y z ≡ startCall words counters cells good
-    unfolding startCall startTests systemPowerOnAnswer planTests answered answerOf passed ifPassed
+        rowsGiven n x y z ≡ startCall words counters cells good
+    unfolding startCall startCallTests systemPowerOnAnswer planTests answered answerOf passed ifPassed
     start-made t f (g, h, k) =
         let u : accepted r ≡ true = rw is at t in
         let m : o .system ≡ powerOn r = ap (λ (z : Started). z .system) begun-system ∙ rw u in
@@ -529,17 +529,17 @@ module _ (words counters cells good : List ℕ) {p : Plan} (is : p ≡ planOfWor
     abbrev right : Bool
     right = lengthsOk r (length sensors) (length faults) (length out)
 
-    tests-are : frameTests words counters cells good sensors mask faults out ≡ systemTests r sys sensors mask faults out
-    unfolding frameTests countsTests systemTests
+    tests-are : frameCallTests words counters cells good sensors mask faults out ≡ systemTests r sys sensors mask faults out
+    unfolding frameCallTests countsTests systemTests
     tests-are =
         ap (λ (b : Bool). test 7 (accepted r) ∷ test 9 (maskOk r mask && b) ∷ test 8 (rowsRight words counters cells good && right) ∷ []) counts-are
         ∙ ap (λ (b : Bool). test 7 (accepted r) ∷ test 9 (maskOk r mask && countsOk r sys) ∷ test 8 (b && right) ∷ []) w
 
-    part : {A B : Type 0} (f : A → B) (new old : A) {m : A} {x : B} {kept : B} → x ≡ f m → m ≡ ifPassed (systemTests r sys sensors mask faults out) new old → f old ≡ kept → x ≡ ifPassed (frameTests words counters cells good sensors mask faults out) (f new) kept
+    part : {A B : Type 0} (f : A → B) (new old : A) {m : A} {x : B} {kept : B} → x ≡ f m → m ≡ ifPassed (systemTests r sys sensors mask faults out) new old → f old ≡ kept → x ≡ ifPassed (frameCallTests words counters cells good sensors mask faults out) (f new) kept
     part f new old e g k =
         e ∙ ap f g ∙ passed-ap f (systemTests r sys sensors mask faults out) new old
         ∙ ap (λ (ts : List Test). ifPassed ts (f new) (f old)) (sym tests-are)
-        ∙ ap (ifPassed (frameTests words counters cells good sensors mask faults out) (f new)) k
+        ∙ ap (ifPassed (frameCallTests words counters cells good sensors mask faults out) (f new)) k
 
     pub frame-made :
         {s : System} {o : Framed} {n : ℕ} {x y z u : List ℕ} →
@@ -547,7 +547,7 @@ module _ (words counters cells good : List ℕ) {p : Plan} (is : p ≡ planOfWor
         (o ≡ frameAnswer p s sensors mask faults out) × (u ≡ framePlace p s sensors mask faults out) →
         n ≡ codeOf (o .answer) →
         (x ≡ countersOf (o .system)) × (y ≡ patternsOf (o .system)) × (z ≡ o .system .good) →
-        frame n x y z u ≡ frameCall words counters cells good sensors mask faults out
+        frameGiven n x y z u ≡ frameCall words counters cells good sensors mask faults out
     unfolding frameCall frameAnswer framePlace
     frame-made e f g (h, k, l) =
         let m = rw (is, e) at f in
@@ -568,8 +568,8 @@ module _ (words counters cells good : List ℕ) {p : Plan} (is : p ≡ planOfWor
       m ≡ memoryOfWords counter own →
       o ≡ equalAnswer p s m →
       n ≡ codeOf (o .answer) →
-      counted n (o .count) ≡ equalCall words counters cells good counter own
-  unfolding equalCall equalTests countsTests equalAnswer systemEqualTests answered passed ifPassed
+      countGiven n (o .count) ≡ equalCall words counters cells good counter own
+  unfolding equalCall equalCallTests countsTests equalAnswer systemEqualTests answered passed ifPassed
   equal-made counter own l e f g h =
       let m = rw (is, e, f) at g in
       let z : maskOk r 0 ≡ true = no-mask r in

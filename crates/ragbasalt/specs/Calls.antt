@@ -28,63 +28,63 @@ use Rattle.system_words.specs.Words.{codeOf, memoryOfWords, rowsOk, systemOfWor
 
 -- ---- what a call gives, and what then stands where it was lent a place
 
-pub record Counted : Type 0 where
+pub record CountGiven : Type 0 where
   pub answer : ℕ
   pub count : ℕ
 
-pub record Placed : Type 0 where
+pub record PlaceGiven : Type 0 where
   pub answer : ℕ
   pub place : List ℕ
 
-pub record Written : Type 0 where
+pub record TextGiven : Type 0 where
   pub answer : ℕ
   pub text : List ℕ
   pub count : ℕ
 
-pub record Stored : Type 0 where
+pub record MemoryGiven : Type 0 where
   pub answer : ℕ
   pub counter : ℕ
   pub cells : List ℕ
 
-pub record Single : Type 0 where
+pub record SingleGiven : Type 0 where
   pub answer : ℕ
   pub counter : ℕ
   pub cells : List ℕ
   pub place : List ℕ
 
-pub record Rows : Type 0 where
+pub record RowsGiven : Type 0 where
   pub answer : ℕ
   pub counters : List ℕ
   pub cells : List ℕ
   pub good : List ℕ
 
-pub record Frame : Type 0 where
+pub record FrameGiven : Type 0 where
   pub answer : ℕ
   pub counters : List ℕ
   pub cells : List ℕ
   pub good : List ℕ
   pub place : List ℕ
 
-abbrev pub counted : ℕ → ℕ → Counted
-counted answer count = record { answer = answer; count = count }
+abbrev pub countGiven : ℕ → ℕ → CountGiven
+countGiven answer count = record { answer = answer; count = count }
 
-abbrev pub placedAt : ℕ → List ℕ → Placed
-placedAt answer place = record { answer = answer; place = place }
+abbrev pub placeGiven : ℕ → List ℕ → PlaceGiven
+placeGiven answer place = record { answer = answer; place = place }
 
-abbrev pub writtenAt : ℕ → List ℕ → ℕ → Written
-writtenAt answer text count = record { answer = answer; text = text; count = count }
+abbrev pub textGiven : ℕ → List ℕ → ℕ → TextGiven
+textGiven answer text count = record { answer = answer; text = text; count = count }
 
-abbrev pub stored : ℕ → ℕ → List ℕ → Stored
-stored answer counter cells = record { answer = answer; counter = counter; cells = cells }
+abbrev pub memoryGiven : ℕ → ℕ → List ℕ → MemoryGiven
+memoryGiven answer counter cells = record { answer = answer; counter = counter; cells = cells }
 
-abbrev pub single : ℕ → ℕ → List ℕ → List ℕ → Single
-single answer counter cells place = record { answer = answer; counter = counter; cells = cells; place = place }
+abbrev pub singleGiven : ℕ → ℕ → List ℕ → List ℕ → SingleGiven
+singleGiven answer counter cells place = record { answer = answer; counter = counter; cells = cells; place = place }
 
-abbrev pub rows : ℕ → List ℕ → List ℕ → List ℕ → Rows
-rows answer counters cells good = record { answer = answer; counters = counters; cells = cells; good = good }
+abbrev pub rowsGiven : ℕ → List ℕ → List ℕ → List ℕ → RowsGiven
+rowsGiven answer counters cells good = record { answer = answer; counters = counters; cells = cells; good = good }
 
-abbrev pub frame : ℕ → List ℕ → List ℕ → List ℕ → List ℕ → Frame
-frame answer counters cells good place = record { answer = answer; counters = counters; cells = cells; good = good; place = place }
+abbrev pub frameGiven : ℕ → List ℕ → List ℕ → List ℕ → List ℕ → FrameGiven
+frameGiven answer counters cells good place = record { answer = answer; counters = counters; cells = cells; good = good; place = place }
 
 -- ---- plans
 
@@ -92,21 +92,21 @@ frame answer counters cells good place = record { answer = answer; counters = co
 unfoldable pub wordsTests : ℕ → List Test
 wordsTests room = test 8 (eqb room planSize) ∷ []
 
-unfoldable pub readCall : List ℕ → List ℕ → Placed
+unfoldable pub readCall : List ℕ → List ℕ → PlaceGiven
 readCall s words =
-    placedAt (codeOf (unlessRefused (textRefusal s) (answered (wordsTests (length words))) (readAnswer s .answer)))
+    placeGiven (codeOf (unlessRefused (textRefusal s) (answered (wordsTests (length words))) (readAnswer s .answer)))
     (unlessRefused (textRefusal s) (ifPassed (wordsTests (length words)) (planWords (planOf s)) words) words)
 
-unfoldable pub writeCall : List ℕ → List ℕ → Written
+unfoldable pub writeCall : List ℕ → List ℕ → TextGiven
 writeCall words out =
-    writtenAt (codeOf (writeAnswer (planOfWords words) (length out) .answer)) (writePlace (planOfWords words) out)
+    textGiven (codeOf (writeAnswer (planOfWords words) (length out) .answer)) (writePlace (planOfWords words) out)
     (writeAnswer (planOfWords words) (length out) .count)
 
 unfoldable pub checkCall : List ℕ → ℕ
 checkCall words = codeOf (checked (planOfWords words))
 
-unfoldable pub periodCall : List ℕ → Counted
-periodCall words = counted (codeOf (periodFound (planOfWords words) .answer)) (periodFound (planOfWords words) .period)
+unfoldable pub periodCall : List ℕ → CountGiven
+periodCall words = countGiven (codeOf (periodFound (planOfWords words) .answer)) (periodFound (planOfWords words) .period)
 
 -- a size of an accepted plan; 0 beside 7
 unfoldable pub sizeCall : (Plan → ℕ) → List ℕ → ℕ
@@ -122,14 +122,14 @@ unfoldable pub cellsRefused : Plan → Answer
 cellsRefused p = answered (test 7 (accepted p) ∷ test 8 false ∷ [])
 
 -- a call that makes a new memory
-unfoldable pub memoryCall : Plan → ℕ → List ℕ → Bool → Memory → Stored
+unfoldable pub memoryCall : Plan → ℕ → List ℕ → Bool → Memory → MemoryGiven
 memoryCall p counter cells right new =
-    stored (codeOf (answered (nodeTests p cells right))) (ifPassed (nodeTests p cells right) (new .counter) counter)
+    memoryGiven (codeOf (answered (nodeTests p cells right))) (ifPassed (nodeTests p cells right) (new .counter) counter)
     (ifPassed (nodeTests p cells right) (new .cells) cells)
 
 -- a call that fills a place
-unfoldable pub placeCall : Plan → List ℕ → Bool → List ℕ → List ℕ → Placed
-placeCall p cells right new out = placedAt (codeOf (answered (nodeTests p cells right))) (ifPassed (nodeTests p cells right) new out)
+unfoldable pub placeCall : Plan → List ℕ → Bool → List ℕ → List ℕ → PlaceGiven
+placeCall p cells right new out = placeGiven (codeOf (answered (nodeTests p cells right))) (ifPassed (nodeTests p cells right) new out)
 
 module _ (words : List ℕ) (counter : ℕ) (cells : List ℕ) where
   abbrev p : Plan
@@ -138,28 +138,28 @@ module _ (words : List ℕ) (counter : ℕ) (cells : List ℕ) where
   abbrev own : Memory
   own = memoryOfWords counter cells
 
-  unfoldable pub powerOnCall : Stored
+  unfoldable pub powerOnCall : MemoryGiven
   powerOnCall = memoryCall p counter cells true (poweredOn p)
 
-  unfoldable pub computeCall : List ℕ → Stored
+  unfoldable pub computeCall : List ℕ → MemoryGiven
   computeCall sensors = memoryCall p counter cells (eqb (length sensors) (p .sensors)) (computed p sensors own)
 
-  unfoldable pub voteCall : List ℕ → Stored
+  unfoldable pub voteCall : List ℕ → MemoryGiven
   voteCall box = memoryCall p counter cells (eqb (length box) (mailboxSize p)) (voted p own box)
 
-  unfoldable pub messageCall : List ℕ → Placed
+  unfoldable pub messageCall : List ℕ → PlaceGiven
   messageCall out = placeCall p cells (eqb (length out) (messageSize p)) (messageOf p own) out
 
-  unfoldable pub setpointsCall : List ℕ → Placed
+  unfoldable pub setpointsCall : List ℕ → PlaceGiven
   setpointsCall out = placeCall p cells (eqb (length out) (p .actuators)) (fill (setpoint p own) (p .actuators) out) out
 
   -- the single controller
   unfoldable pub singleRight : List ℕ → List ℕ → Bool
   singleRight sensors out = eqb (length sensors) (p .sensors) && eqb (length out) (p .actuators)
 
-  unfoldable pub singleCall : List ℕ → List ℕ → Single
+  unfoldable pub singleCall : List ℕ → List ℕ → SingleGiven
   singleCall sensors out =
-      single (codeOf (answered (nodeTests p cells (singleRight sensors out))))
+      singleGiven (codeOf (answered (nodeTests p cells (singleRight sensors out))))
       (ifPassed (nodeTests p cells (singleRight sensors out)) (computed p sensors own .counter) counter)
       (ifPassed (nodeTests p cells (singleRight sensors out)) (computed p sensors own .cells) cells)
       (ifPassed (nodeTests p cells (singleRight sensors out)) (singlePlace p (computed p sensors own) out) out)
@@ -180,42 +180,42 @@ module _ (words counters cells good : List ℕ) where
   abbrev pub rowsRight : Bool
   rowsRight = rowsOk (length counters) (length cells) (length good)
 
-  unfoldable pub startTests : List Test
-  startTests = test 7 (accepted q) ∷ test 8 rowsRight ∷ []
+  unfoldable pub startCallTests : List Test
+  startCallTests = test 7 (accepted q) ∷ test 8 rowsRight ∷ []
 
-  unfoldable pub startCall : Rows
+  unfoldable pub startCall : RowsGiven
   startCall =
-      rows (codeOf (answered startTests)) (ifPassed startTests (countersOf (powerOn q)) counters) (ifPassed startTests (patternsOf (powerOn q)) cells)
-      (ifPassed startTests (powerOn q .good) good)
+      rowsGiven (codeOf (answered startCallTests)) (ifPassed startCallTests (countersOf (powerOn q)) counters) (ifPassed startCallTests (patternsOf (powerOn q)) cells)
+      (ifPassed startCallTests (powerOn q .good) good)
 
   module _ (sensors : List ℕ) (mask : ℕ) (faults out : List ℕ) where
-    unfoldable pub frameTests : List Test
-    frameTests = countsTests q good mask (rowsRight && lengthsOk q (length sensors) (length faults) (length out))
+    unfoldable pub frameCallTests : List Test
+    frameCallTests = countsTests q good mask (rowsRight && lengthsOk q (length sensors) (length faults) (length out))
 
-    unfoldable pub frameCall : Frame
+    unfoldable pub frameCall : FrameGiven
     frameCall =
-        frame (codeOf (answered frameTests))
-        (ifPassed frameTests (countersOf (systemAfter q sys sensors mask faults)) counters)
-        (ifPassed frameTests (patternsOf (systemAfter q sys sensors mask faults)) cells)
-        (ifPassed frameTests (systemAfter q sys sensors mask faults .good) good)
-        (ifPassed frameTests (placeAfter q sys sensors mask faults out) out)
+        frameGiven (codeOf (answered frameCallTests))
+        (ifPassed frameCallTests (countersOf (systemAfter q sys sensors mask faults)) counters)
+        (ifPassed frameCallTests (patternsOf (systemAfter q sys sensors mask faults)) cells)
+        (ifPassed frameCallTests (systemAfter q sys sensors mask faults .good) good)
+        (ifPassed frameCallTests (placeAfter q sys sensors mask faults out) out)
 
   -- how many nodes have this memory
   module _ (counter : ℕ) (single : List ℕ) where
-    unfoldable pub equalTests : List Test
-    equalTests = countsTests q good 0 (rowsRight && eqb (length single) mostCells)
+    unfoldable pub equalCallTests : List Test
+    equalCallTests = countsTests q good 0 (rowsRight && eqb (length single) mostCells)
 
-    unfoldable pub equalCall : Counted
+    unfoldable pub equalCall : CountGiven
     equalCall =
-        counted (codeOf (answered equalTests))
-        (ifPassed equalTests (howMany (λ i. sameMemory q (memoryOf sys i) (memoryOfWords counter single)) (q .nodes)) 0)
+        countGiven (codeOf (answered equalCallTests))
+        (ifPassed equalCallTests (howMany (λ i. sameMemory q (memoryOf sys i) (memoryOfWords counter single)) (q .nodes)) 0)
 
 -- the nodes that work: by their good counts alone
 module _ (words good : List ℕ) (mask : ℕ) where
-  unfoldable pub workingTests : List Test
-  workingTests = countsTests (planOfWords words) good mask (eqb (length good) mostNodes)
+  unfoldable pub workingCallTests : List Test
+  workingCallTests = countsTests (planOfWords words) good mask (eqb (length good) mostNodes)
 
-  unfoldable pub workingCall : Counted
+  unfoldable pub workingCall : CountGiven
   workingCall =
-      counted (codeOf (answered workingTests))
-      (ifPassed workingTests (howMany (isWorking (period (planOfWords words)) mask good) (planOfWords words .nodes)) 0)
+      countGiven (codeOf (answered workingCallTests))
+      (ifPassed workingCallTests (howMany (isWorking (period (planOfWords words)) mask good) (planOfWords words .nodes)) 0)

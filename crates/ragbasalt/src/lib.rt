@@ -9,7 +9,7 @@ ghost use Rattle.system.specs.Fault.{faultsSize};
 ghost use Rattle.answer.specs.Tests.{answered};
 ghost use mathlib.Core.Bool.{false};
 ghost use Rattle.system_words.specs.Words.{codeOf};
-ghost use Rattle.ragbasalt.specs.Calls.{counted, placedAt, writtenAt, stored, single, rows, frame, readCall, writeCall, checkCall, periodCall, sizeCall, cellsRefused, powerOnCall, computeCall, voteCall, messageCall, setpointsCall, singleCall, countsTests, startCall, frameCall, equalCall, workingCall};
+ghost use Rattle.ragbasalt.specs.Calls.{countGiven, placeGiven, textGiven, memoryGiven, singleGiven, rowsGiven, frameGiven, readCall, writeCall, checkCall, periodCall, sizeCall, cellsRefused, powerOnCall, computeCall, voteCall, messageCall, setpointsCall, singleCall, countsTests, startCall, frameCall, equalCall, workingCall};
 use answer::Answer;
 use plan::Plan;
 use system::System;
@@ -26,7 +26,7 @@ pub extern "C" fn ragbasalt_version() -> u64
 
 #[no_mangle]
 pub extern "C" fn ragbasalt_plan_read(text: &[u8], plan: &mut [u64]) -> u64
-    ensures { λ r. ⌜ placedAt r (now (plan .exit)) ≡ readCall (now (text .entry)) (now (plan .entry)) ⌝ }
+    ensures { λ r. ⌜ placeGiven r (now (plan .exit)) ≡ readCall (now (text .entry)) (now (plan .entry)) ⌝ }
 {
     let mut period: usize = 0;
     let read = plan_text::step::read(text, &mut period);
@@ -44,7 +44,7 @@ pub extern "C" fn ragbasalt_plan_read(text: &[u8], plan: &mut [u64]) -> u64
 
 #[no_mangle]
 pub extern "C" fn ragbasalt_plan_write(plan: &[u64], text: &mut [u8], count: &mut usize) -> u64
-    ensures { λ r. ⌜ writtenAt r (now (text .exit)) (now (count .exit)) ≡ writeCall (now (plan .entry)) (now (text .entry)) ⌝ }
+    ensures { λ r. ⌜ textGiven r (now (text .exit)) (now (count .exit)) ≡ writeCall (now (plan .entry)) (now (text .entry)) ⌝ }
 {
     let p = plan_words::step::plan(plan);
     let written = plan_text::write(p, text);
@@ -64,7 +64,7 @@ pub extern "C" fn ragbasalt_plan_check(plan: &[u64]) -> u64
 
 #[no_mangle]
 pub extern "C" fn ragbasalt_plan_period(plan: &[u64], period: &mut usize) -> u64
-    ensures { λ r. ⌜ counted r (now (period .exit)) ≡ periodCall (now (plan .entry)) ⌝ }
+    ensures { λ r. ⌜ countGiven r (now (period .exit)) ≡ periodCall (now (plan .entry)) ⌝ }
 {
     let p = plan_words::step::plan(plan);
     let found = plan_period::recovery_period(p);
@@ -136,7 +136,7 @@ fn cells_refused(plan: Plan) -> u64
 
 #[no_mangle]
 pub extern "C" fn ragbasalt_node_power_on(plan: &[u64], counter: &mut u16, cells: &mut [u64]) -> u64
-    ensures { λ r. ⌜ stored r (now (counter .exit)) (now (cells .exit)) ≡ powerOnCall (now (plan .entry)) (now (counter .entry)) (now (cells .entry)) ⌝ }
+    ensures { λ r. ⌜ memoryGiven r (now (counter .exit)) (now (cells .exit)) ≡ powerOnCall (now (plan .entry)) (now (counter .entry)) (now (cells .entry)) ⌝ }
 {
     let p = plan_words::step::plan(plan);
     if cells.len() != Plan::CELLS {
@@ -158,7 +158,7 @@ pub extern "C" fn ragbasalt_node_compute(
     cells: &mut [u64],
     sensors: &[u64],
 ) -> u64
-    ensures { λ r. ⌜ stored r (now (counter .exit)) (now (cells .exit)) ≡ computeCall (now (plan .entry)) (now (counter .entry)) (now (cells .entry)) (now (sensors .entry)) ⌝ }
+    ensures { λ r. ⌜ memoryGiven r (now (counter .exit)) (now (cells .exit)) ≡ computeCall (now (plan .entry)) (now (counter .entry)) (now (cells .entry)) (now (sensors .entry)) ⌝ }
 {
     let p = plan_words::step::plan(plan);
     if cells.len() != Plan::CELLS {
@@ -178,7 +178,7 @@ pub extern "C" fn ragbasalt_node_message(
     cells: &[u64],
     message: &mut [u8],
 ) -> u64
-    ensures { λ r. ⌜ placedAt r (now (message .exit)) ≡ messageCall (now (plan .entry)) counter (now (cells .entry)) (now (message .entry)) ⌝ }
+    ensures { λ r. ⌜ placeGiven r (now (message .exit)) ≡ messageCall (now (plan .entry)) counter (now (cells .entry)) (now (message .entry)) ⌝ }
 {
     let p = plan_words::step::plan(plan);
     if cells.len() != Plan::CELLS {
@@ -196,7 +196,7 @@ pub extern "C" fn ragbasalt_node_vote(
     cells: &mut [u64],
     mailbox: &[u8],
 ) -> u64
-    ensures { λ r. ⌜ stored r (now (counter .exit)) (now (cells .exit)) ≡ voteCall (now (plan .entry)) (now (counter .entry)) (now (cells .entry)) (now (mailbox .entry)) ⌝ }
+    ensures { λ r. ⌜ memoryGiven r (now (counter .exit)) (now (cells .exit)) ≡ voteCall (now (plan .entry)) (now (counter .entry)) (now (cells .entry)) (now (mailbox .entry)) ⌝ }
 {
     let p = plan_words::step::plan(plan);
     if cells.len() != Plan::CELLS {
@@ -216,7 +216,7 @@ pub extern "C" fn ragbasalt_node_setpoints(
     cells: &[u64],
     setpoints: &mut [u64],
 ) -> u64
-    ensures { λ r. ⌜ placedAt r (now (setpoints .exit)) ≡ setpointsCall (now (plan .entry)) counter (now (cells .entry)) (now (setpoints .entry)) ⌝ }
+    ensures { λ r. ⌜ placeGiven r (now (setpoints .exit)) ≡ setpointsCall (now (plan .entry)) counter (now (cells .entry)) (now (setpoints .entry)) ⌝ }
 {
     let p = plan_words::step::plan(plan);
     if cells.len() != Plan::CELLS {
@@ -236,7 +236,7 @@ pub extern "C" fn ragbasalt_single_frame(
     sensors: &[u64],
     setpoints: &mut [u64],
 ) -> u64
-    ensures { λ r. ⌜ single r (now (counter .exit)) (now (cells .exit)) (now (setpoints .exit)) ≡ singleCall (now (plan .entry)) (now (counter .entry)) (now (cells .entry)) (now (sensors .entry)) (now (setpoints .entry)) ⌝ }
+    ensures { λ r. ⌜ singleGiven r (now (counter .exit)) (now (cells .exit)) (now (setpoints .exit)) ≡ singleCall (now (plan .entry)) (now (counter .entry)) (now (cells .entry)) (now (sensors .entry)) (now (setpoints .entry)) ⌝ }
 {
     let p = plan_words::step::plan(plan);
     if cells.len() != Plan::CELLS {
@@ -258,7 +258,7 @@ pub extern "C" fn ragbasalt_system_power_on(
     cells: &mut [u64],
     good: &mut [u16],
 ) -> u64
-    ensures { λ r. ⌜ rows r (now (counters .exit)) (now (cells .exit)) (now (good .exit)) ≡ startCall (now (plan .entry)) (now (counters .entry)) (now (cells .entry)) (now (good .entry)) ⌝ }
+    ensures { λ r. ⌜ rowsGiven r (now (counters .exit)) (now (cells .exit)) (now (good .exit)) ≡ startCall (now (plan .entry)) (now (counters .entry)) (now (cells .entry)) (now (good .entry)) ⌝ }
 {
     let p = plan_words::step::plan(plan);
     if !system_words::step::rows_ok(counters.len(), cells.len(), good.len()) {
@@ -297,7 +297,7 @@ pub extern "C" fn ragbasalt_system_frame(
     faults: &[u8],
     setpoints: &mut [u64],
 ) -> u64
-    ensures { λ r. ⌜ frame r (now (counters .exit)) (now (cells .exit)) (now (good .exit)) (now (setpoints .exit)) ≡ frameCall (now (plan .entry)) (now (counters .entry)) (now (cells .entry)) (now (good .entry)) (now (sensors .entry)) mask (now (faults .entry)) (now (setpoints .entry)) ⌝ }
+    ensures { λ r. ⌜ frameGiven r (now (counters .exit)) (now (cells .exit)) (now (good .exit)) (now (setpoints .exit)) ≡ frameCall (now (plan .entry)) (now (counters .entry)) (now (cells .entry)) (now (good .entry)) (now (sensors .entry)) mask (now (faults .entry)) (now (setpoints .entry)) ⌝ }
 {
     let p = plan_words::step::plan(plan);
     if !system_words::step::rows_ok(counters.len(), cells.len(), good.len()) {
@@ -317,7 +317,7 @@ pub extern "C" fn ragbasalt_system_working(
     mask: u64,
     count: &mut usize,
 ) -> u64
-    ensures { λ r. ⌜ counted r (now (count .exit)) ≡ workingCall (now (plan .entry)) (now (good .entry)) mask ⌝ }
+    ensures { λ r. ⌜ countGiven r (now (count .exit)) ≡ workingCall (now (plan .entry)) (now (good .entry)) mask ⌝ }
 {
     let p = plan_words::step::plan(plan);
     if good.len() != System::NODES {
@@ -341,7 +341,7 @@ pub extern "C" fn ragbasalt_system_equal(
     single: &[u64],
     count: &mut usize,
 ) -> u64
-    ensures { λ r. ⌜ counted r (now (count .exit)) ≡ equalCall (now (plan .entry)) (now (counters .entry)) (now (cells .entry)) (now (good .entry)) counter (now (single .entry)) ⌝ }
+    ensures { λ r. ⌜ countGiven r (now (count .exit)) ≡ equalCall (now (plan .entry)) (now (counters .entry)) (now (cells .entry)) (now (good .entry)) counter (now (single .entry)) ⌝ }
 {
     let p = plan_words::step::plan(plan);
     let right = system_words::step::rows_ok(counters.len(), cells.len(), good.len())
