@@ -16,7 +16,7 @@
  * number that a call gives (count, period) is 0. Refusals come in the order 7, 9, 8; those of a text, 1 to 6, before 8.
  *
  * Stack that a call takes below its caller, measured on this archive as built for x86-64 (docs/PERFORMANCE.md): at most 25,100 bytes for a call on a plan or on one node, 26,000 for
- * ragbasalt_system_equal, 33,500 for a frame of the whole system. Allow for some more.
+ * ragbasalt_system_equal, 38,900 for a frame of the whole system. Allow for some more.
  */
 #ifndef RAGBASALT_H
 #define RAGBASALT_H
@@ -45,7 +45,7 @@ extern "C" {
 #define RAGBASALT_MAILBOX_BYTES (RAGBASALT_NODES * RAGBASALT_MESSAGE_BYTES)
 #define RAGBASALT_FAULTS_BYTES (RAGBASALT_NODES * ((RAGBASALT_NODES + 1u) * RAGBASALT_MESSAGE_BYTES + 8u * RAGBASALT_ACTUATORS))
 
-/* A plan's words: six counts; the initial patterns; the tasks, each by the six numbers of its text line (an unused one is 10 0 0 0 0 0); a word of votes for each
+/* A plan's words: six counts; the initial patterns; the tasks, each by the six numbers of its text line, kinds 10 to 16 (an unused one is 10 0 0 0 0 0); a word of votes for each
  * frame, bit c set where cell c is voted in it; the actuators' cells. What is past the counts is zero. Other words, and another length, are a plan that 7 refuses. */
 #define RAGBASALT_PLAN_WORDS 446u
 #define RAGBASALT_AT_NODES 0u
@@ -58,6 +58,17 @@ extern "C" {
 #define RAGBASALT_AT_TASKS 38u
 #define RAGBASALT_AT_VOTES 422u
 #define RAGBASALT_AT_ACTUATOR_CELLS 438u
+
+/* The kinds of a task, its first number. Then frame, target and, but for Take's sensor, cell a; the last two are what the kind has beside. */
+enum ragbasalt_kind {
+    RAGBASALT_TAKE = 10,
+    RAGBASALT_SUM = 11,   /* cell b */
+    RAGBASALT_DIFF = 12,  /* cell b */
+    RAGBASALT_SCALE = 13, /* factor */
+    RAGBASALT_LIMIT = 14, /* low, high */
+    RAGBASALT_WIND = 15,  /* rate, cap */
+    RAGBASALT_CAM = 16
+};
 
 /* The number of an answer. */
 enum ragbasalt_number {

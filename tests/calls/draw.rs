@@ -71,13 +71,17 @@ fn damage(r: &Random, plan: &Plan, words: &mut Vec<u64>) {
         }
         3 => words[COUNTS + r.below(CELLS)] = strange(r),
         4 => {
-            let kinds = [0, 1, 9, 16, 20, 30, 266, (1 << 32) + 10, MINUS | 10, u64::MAX];
-            words[at] = r.pick(&[r.pick(&kinds), r.between(10, 15) as u64]);
+            let kinds = [0, 1, 9, 17, 20, 30, 266, 272, (1 << 32) + 10, MINUS | 10, u64::MAX];
+            words[at] = r.pick(&[r.pick(&kinds), r.between(10, 16) as u64]);
         }
         5 => {
             let field = at + r.between(1, 3);
             let sizes = [plan.frames, plan.cells, plan.sensors].map(|size| size as u64);
             words[field] = r.pick(&[other_number(r, words[field]), r.pick(&sizes)]);
+        }
+        // A cam has no constants.
+        6 | 7 if words[at] == 16 => {
+            words[at + r.between(4, 5)] = r.pick(&[1, other_number(r, 0), other_constant(r)]);
         }
         6 | 7 => match r.below(4) {
             0 => words.swap(at + 4, at + 5),
@@ -86,7 +90,7 @@ fn damage(r: &Random, plan: &Plan, words: &mut Vec<u64>) {
         },
         8 if tasks < 64 => {
             let unused = TASKS_AT + 6 * r.between(tasks, 63);
-            words[unused + r.below(6)] = r.pick(&[1, 11, MINUS, 0]);
+            words[unused + r.below(6)] = r.pick(&[1, 11, 16, MINUS, 0]);
         }
         8 | 9 => {
             let cell = r.pick(&[plan.cells, 31, 32, 63, r.below(64)]).min(63);

@@ -1,4 +1,4 @@
-// Plan texts with the refusal that document 01 gives each, worked out by hand: number, line, text, why.
+// Plan texts with the refusal that document 01 (cams: request 2026-01) gives each, worked out by hand: number, line, text, why.
 // Written with `rustc -O cases.rs && ./cases DIR`, it makes DIR/data/texts and DIR/stdout of the program crates/plan_text_cases.
 // A text in data/texts stands after its length in eight digits and a line feed.
 // The program also writes each accepted plan back: 0 and 0 says that the bytes were those of the text.
@@ -41,6 +41,7 @@ fn all() -> Vec<Row> {
         [13, 1, 0, 1, MINUS_ONE, 0],
         [14, 1, 1, 0, MINUS_ONE, ONE],
         [15, 1, 2, 1, ONE, TWO],
+        [16, 1, 0, 2, 0, 0],
         [20, 0, 0, 0, 0, 0],
         [20, 0, 1, 0, 0, 0],
         [20, 0, 2, 0, 0, 0],
@@ -49,6 +50,18 @@ fn all() -> Vec<Row> {
         [20, 1, 2, 0, 0, 0],
         [30, 0, 0, 0, 0, 0],
         [30, 1, 2, 0, 0, 0],
+    ]
+}
+
+// The position of a cutter into cell 0, its cam into cell 1; F = 1, C = 2, nothing is voted.
+fn cutter() -> Vec<Row> {
+    vec![
+        [0, 3, 1, 2, 1, 1],
+        [1, 0, 0, 0, 0, 0],
+        [1, 1, 0, 0, 0, 0],
+        [10, 0, 0, 0, 0, 0],
+        [16, 0, 1, 0, 0, 0],
+        [30, 0, 1, 0, 0, 0],
     ]
 }
 
@@ -104,6 +117,9 @@ fn cases() -> Vec<(u32, u32, Vec<u8>, &'static str)> {
     say(0, 0, text(&all()), "every kind");
     say(0, 0, text(&longest()), "617 lines, 35,169 bytes");
     say(0, 0, text(&with(k(), 5, [20, 0, 1, 0, 0, 0])), "K voting cell 1 in frame 0");
+    say(0, 0, text(&cutter()), "a cam");
+    say(0, 0, text(&with(k(), 4, [16, 1, 1, 0, 0, 0])), "K with a cam for its Sum");
+    say(0, 0, text(&and(k(), 5, [16, 1, 0, 1, 0, 0])), "a cam of the last cell");
     // 1: the length
     say(1, 0, vec![], "length 0");
     say(1, 0, text(&k())[..398].to_vec(), "no multiple of 57");
@@ -141,17 +157,23 @@ fn cases() -> Vec<(u32, u32, Vec<u8>, &'static str)> {
     say(3, 1, text(&with(k(), 0, [0, 3, 2, 2, 1, 9])), "nine actuators");
     // 4: order
     say(4, 2, text(&and(k(), 1, k()[0])), "a second header");
-    say(4, 4, text(&with(k(), 3, [16, 0, 0, 0, 0, 0])), "kind 16");
+    say(4, 4, text(&with(k(), 3, [17, 0, 0, 0, 0, 0])), "kind 17");
+    say(4, 5, text(&with(cutter(), 4, [17, 0, 1, 0, 0, 0])), "kind 17 with the columns of a cam");
+    say(4, 5, text(&with(cutter(), 4, [272, 0, 1, 0, 0, 0])), "kind 16 + 256");
     say(4, 4, text(&with(k(), 3, [9, 0, 0, 0, 0, 0])), "kind 9");
     say(4, 6, text(&with(k(), 5, [21, 1, 1, 0, 0, 0])), "kind 21");
     say(4, 2, text(&with(k(), 1, [1, 1, 0, 0, 0, 0])), "cell 1 where 0 is due");
     say(4, 3, text(&with(k(), 2, [1, 2, 0, 0, 0, 0])), "cell 2 of two");
     say(4, 4, text(&and(k(), 3, [1, 2, 0, 0, 0, 0])), "a third cell of two");
     say(4, 3, text(&without(k(), 2)), "a task while a cell is due");
+    say(4, 3, text(&and(cutter(), 2, cutter()[4])), "a cam while a cell is due");
     say(4, 2, text(&[k()[0], k()[5]]), "a vote while cells are due");
     say(4, 2, text(&[k()[0], k()[6]]), "an actuator while cells are due");
     say(4, 5, text(&with(with(k(), 3, k()[4]), 4, k()[3])), "falling frames");
+    say(4, 6, text(&and(k(), 5, [16, 0, 1, 0, 0, 0])), "a cam of an earlier frame");
     say(4, 6, text(&with(with(k(), 4, k()[5]), 5, k()[4])), "a task after a vote");
+    say(4, 7, text(&and(k(), 6, [16, 1, 1, 0, 0, 0])), "a cam after a vote");
+    say(4, 7, text(&and(cutter(), 6, cutter()[4])), "a cam after an actuator");
     say(4, 7, text(&and(k(), 6, k()[5])), "a vote equal to the one before");
     say(4, 7, text(&and(k(), 6, [20, 1, 0, 0, 0, 0])), "a smaller cell in the same frame");
     say(4, 7, text(&and(k(), 6, [20, 0, 9999, 0, 0, 0])), "an earlier frame, and a cell out of range: 4 before 5");
@@ -162,8 +184,9 @@ fn cases() -> Vec<(u32, u32, Vec<u8>, &'static str)> {
     say(4, 7, text(&k()[..6]), "the actuator is missing: one past the last line");
     say(4, 2, text(&k()[..1]), "a header alone");
     say(4, 3, text(&k()[..2]), "a cell is missing");
-    say(4, 18, text(&all()[..17]), "the second actuator is missing");
+    say(4, 19, text(&all()[..18]), "the second actuator is missing");
     say(4, 98, text(&and(longest(), 97, [10, 15, 99, 0, 0, 0])[..98]), "a 65th task, whatever else is wrong with it");
+    say(4, 98, text(&and(longest(), 97, [16, 15, 0, 0, 0, 0])[..98]), "a cam as 65th task");
     // 5: range, unused columns, constants
     say(5, 2, text(&with(k(), 1, [1, 0, 1, 0, 0, 0])), "a cell's third column");
     say(5, 2, text(&with(k(), 1, [1, 0, 0, 1, 0, 0])), "a cell's fourth column");
@@ -186,15 +209,21 @@ fn cases() -> Vec<(u32, u32, Vec<u8>, &'static str)> {
     say(5, 10, text(&with(all(), 9, [15, 1, 2, 1, ONE, MINUS_ONE])), "cap −1");
     say(5, 10, text(&with(all(), 9, [15, 1, 2, 1, NAN, ONE])), "a rate that is a NaN");
     say(0, 0, text(&with(all(), 9, [15, 1, 2, 1, MINUS_ZERO, 0])), "rate −0, cap +0");
+    say(5, 5, text(&with(cutter(), 4, [16, 0, 1, 0, 1, 0])), "a cam's fifth column, with a cell as a Sum has it");
+    say(5, 5, text(&with(cutter(), 4, [16, 0, 1, 0, MINUS_ZERO, 0])), "a cam's fifth column with −0");
+    say(5, 5, text(&with(cutter(), 4, [16, 0, 1, 0, 0, 1])), "a cam's sixth column");
+    say(5, 5, text(&with(cutter(), 4, [16, 0, 1, 2, 0, 0])), "a cam's cell a out of range");
+    say(5, 5, text(&with(cutter(), 4, [16, 0, 2, 0, 0, 0])), "a cam's target out of range");
+    say(5, 5, text(&with(cutter(), 4, [16, 1, 1, 0, 0, 0])), "a cam's frame out of range");
     say(5, 6, text(&with(k(), 5, [20, 2, 1, 0, 0, 0])), "a vote's frame out of range");
     say(5, 6, text(&with(k(), 5, [20, 1, 2, 0, 0, 0])), "a vote's cell out of range");
     say(5, 6, text(&with(k(), 5, [20, 1, 1, 0, 1, 0])), "a vote's fifth column");
     say(5, 7, text(&with(k(), 6, [30, 0, 2, 0, 0, 0])), "an actuator's cell out of range");
     say(5, 7, text(&with(k(), 6, [30, 0, 1, 1, 0, 0])), "an actuator's fourth column");
     // the earliest line, and the order within a line
-    say(4, 4, byte(text(&with(k(), 3, [16, 0, 0, 0, 0, 0])), 5, 3, b'x'), "4 in line 4 comes before 2 in line 6");
+    say(4, 4, byte(text(&with(k(), 3, [17, 0, 0, 0, 0, 0])), 5, 3, b'x'), "4 in line 4 comes before 2 in line 6");
     say(5, 2, text(&with(with(k(), 1, [1, 0, 1, 0, 0, 0]), 4, [99, 0, 0, 0, 0, 0])), "5 in line 2 comes before 4 in line 5");
-    say(2, 4, byte(text(&with(k(), 3, [16, 9999, 0, 0, 0, 0])), 3, 56, b' '), "2 before 4 and 5 in one line");
+    say(2, 4, byte(text(&with(k(), 3, [17, 9999, 0, 0, 0, 0])), 3, 56, b' '), "2 before 4 and 5 in one line");
     say(4, 5, text(&with(with(k(), 3, k()[4]), 4, [10, 0, 9999, 9999, 5, 5])), "4 before 5 in one line");
     say(2, 1, byte(text(&with(k(), 0, [0, 2, 2, 2, 1, 1])), 0, 10, b'-'), "2 before 3 in line 1");
     say(5, 4, text(&with(k(), 3, [10, 0, 2, 0, 0, 0])[..6]), "5 in a line before the missing actuator");
@@ -202,6 +231,10 @@ fn cases() -> Vec<(u32, u32, Vec<u8>, &'static str)> {
     say(6, 0, text(&without(k(), 5)), "K without its vote");
     say(6, 0, text(&[[0, 3, 1, 1, 1, 1], [1, 0, 0, 0, 0, 0], [30, 0, 0, 0, 0, 0]]), "a cell that no task writes and no vote covers");
     say(0, 0, text(&[[0, 3, 1, 1, 1, 1], [1, 0, 0, 0, 0, 0], [10, 0, 0, 0, 0, 0], [30, 0, 0, 0, 0, 0]]), "a Take and no vote");
+    say(6, 0, text(&[[0, 3, 1, 1, 1, 1], [1, 0, 0, 0, 0, 0], [16, 0, 0, 0, 0, 0], [30, 0, 0, 0, 0, 0]]), "a cam of its own target, and no vote");
+    say(6, 0, text(&with(cutter(), 3, [16, 0, 0, 1, 0, 0])), "two cams, each of the other's target");
+    say(0, 0, text(&with(with(cutter(), 3, cutter()[4]), 4, cutter()[3])), "a cam before the Take that it reads: R = 3");
+    say(0, 0, text(&without(with(k(), 4, [16, 1, 1, 0, 0, 0]), 5)), "K without its vote, and a cam for its Sum: it does not read its target");
     l
 }
 

@@ -42,6 +42,7 @@ fn task_row(frame: usize, task: &Task) -> Row {
         Action::Scale { a, factor } => row(13, a, factor, 0),
         Action::Limit { a, low, high } => row(14, a, low, high),
         Action::Wind { a, rate, cap } => row(15, a, rate, cap),
+        Action::Cam { a } => row(16, a, 0, 0),
     }
 }
 
@@ -101,7 +102,7 @@ pub fn plan_of(words: &[u64]) -> Option<Plan> {
     let initial = used(&words[COUNTS..TASKS_AT], c, 0)?;
     let tasks = used(&all_tasks, tasks, UNUSED_TASK)?;
     let outputs = used(&words[OUTPUTS_AT..], a, 0)?;
-    if !tasks.iter().all(|row| (10..=15).contains(&row[0])) {
+    if !tasks.iter().all(|row| (10..=16).contains(&row[0])) {
         return None;
     }
     let mut rows = vec![[0, n, f, c, s, a]];

@@ -116,7 +116,7 @@ fn header_at(r: &Random, row: &mut Row, way: usize) {
     const LIMITS: [[u64; 2]; 5] = [[3, 7], [1, 16], [1, 32], [1, 16], [1, 8]];
     let column = way % 6;
     if column == 0 {
-        row[0] = r.pick(&[1, 2, 10, 15, 20, 30, 99, 256, 9999]);
+        row[0] = r.pick(&[1, 2, 10, 15, 16, 20, 30, 99, 256, 9999]);
         return;
     }
     let more = |step: u64| row[column].wrapping_add(step);
@@ -161,9 +161,9 @@ fn order_at(r: &Random, rows: &mut Vec<Row>, way: usize) {
 
 /// Unknown kinds, each with the block of a kind close to it or with the same low bits.
 #[rustfmt::skip]
-const UNKNOWN: [(u64, u64); 13] = [
-    (0, 2), (0, 3), (0, 257), (1, 9), (1, 16), (1, 19), (1, 266), (2, 21), (2, 276), (3, 29),
-    (3, 31), (3, 99), (3, 9999),
+const UNKNOWN: [(u64, u64); 14] = [
+    (0, 2), (0, 3), (0, 257), (1, 9), (1, 17), (1, 19), (1, 266), (1, 272), (2, 21), (2, 276),
+    (3, 29), (3, 31), (3, 99), (3, 9999),
 ];
 
 fn unknown_kind(r: &Random, rows: &mut [Row], way: usize) {
@@ -180,7 +180,7 @@ fn line_order_at(r: &Random, rows: &mut [Row], line: usize) {
     let row = &mut rows[line];
     match r.below(3) {
         0 => row[0] = r.pick(&UNKNOWN).1,
-        1 => row[0] = r.pick(&[0, 1, 10, 11, 12, 13, 14, 15, 20, 30]),
+        1 => row[0] = r.pick(&[0, 1, 10, 11, 12, 13, 14, 15, 16, 20, 30]),
         _ => {
             let others = [row[1] + 1, row[1].saturating_sub(1), cells, actuators, row[1] + 256];
             row[1] = r.pick(&others).min(9999);
@@ -190,7 +190,7 @@ fn line_order_at(r: &Random, rows: &mut [Row], line: usize) {
 
 /// Tasks up to the 64th or 65th, the last of them with or without a fault of its own.
 fn more_tasks(r: &Random, rows: &mut Vec<Row>) {
-    let tasks = rows.iter().filter(|row| (10..=15).contains(&row[0])).count();
+    let tasks = rows.iter().filter(|row| (10..=16).contains(&row[0])).count();
     let wanted = r.between(MOST_TASKS, MOST_TASKS + 1);
     let end = rows.iter().take_while(|row| row[0] < 20).count();
     for _ in tasks..wanted {
@@ -239,9 +239,9 @@ fn unsorted(r: &Random, rows: &mut [Row]) {
 }
 
 /// The kinds whose lines have columns that refusal 5 looks at.
-pub const KINDS: [u64; 9] = [1, 10, 11, 12, 13, 14, 15, 20, 30];
+pub const KINDS: [u64; 10] = [1, 10, 11, 12, 13, 14, 15, 16, 20, 30];
 
-/// Damages a line of kind number `way` modulo 9, which the plan should have.
+/// Damages a line of kind number `way` modulo 10, which the plan should have.
 pub fn rules(r: &Random, mut rows: Vec<Row>, way: usize) -> Vec<u8> {
     let kind = KINDS[way % KINDS.len()];
     let lines: Vec<_> = (0..rows.len()).filter(|&line| rows[line][0] == kind).collect();
@@ -258,6 +258,7 @@ fn roles(kind: u64) -> &'static [u8; 5] {
         11 | 12 => b"fccc0",
         13 => b"fccx0",
         14 | 15 => b"fccxx",
+        16 => b"fcc00",
         20 => b"fc000",
         30 => b".c000",
         _ => b"....0",

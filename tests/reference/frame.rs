@@ -45,7 +45,26 @@ fn wind(old: u64, a: u64, rate: u64, cap: u64) -> u64 {
     limit(sum, cap | 1 << 63, cap)
 }
 
-fn task_result(task: &Task, cells: &[u64], sensors: &[u64]) -> u64 {
+/// "Entry i is the whole part of (1536 x i^2 - 2 x i^3 + 1024) / 2048", for i from 0 to 512.
+pub fn cam_entry(i: u64) -> u64 {
+    (1536 * i.pow(2) - 2 * i.pow(3) + 1024) / 2048
+}
+
+/// "It reads cell a as a position from 0 to 512 and takes the entry at the whole part, as a float.
+/// Below 0 or NaN gives entry 0; above 512 gives entry 512."
+pub fn cam(a: u64) -> u64 {
+    let position = float(a);
+    let entry = if position < 0.0 || position.is_nan() {
+        0
+    } else if position > 512.0 {
+        512
+    } else {
+        position.trunc() as u64
+    };
+    (cam_entry(entry) as f64).to_bits()
+}
+
+pub fn task_result(task: &Task, cells: &[u64], sensors: &[u64]) -> u64 {
     match task.action {
         Action::Take { sensor } => sensors[sensor],
         Action::Sum { a, b } => result(float(cells[a]) + float(cells[b])),
@@ -53,6 +72,7 @@ fn task_result(task: &Task, cells: &[u64], sensors: &[u64]) -> u64 {
         Action::Scale { a, factor } => result(float(factor) * float(cells[a])),
         Action::Limit { a, low, high } => limit(cells[a], low, high),
         Action::Wind { a, rate, cap } => wind(cells[task.target], cells[a], rate, cap),
+        Action::Cam { a } => cam(cells[a]),
     }
 }
 

@@ -42,10 +42,11 @@ fn task(r: &Random, values: &Values, sizes: Sizes, kind: u64, place: [u64; 2]) -
             let [low, high] = bounds(r, values);
             [14, frame, target, a, low, high]
         }
-        _ => {
+        15 => {
             let cap = if r.one_in(6) { 0 } else { values.constant(r) & !(1 << 63) };
             [15, frame, target, a, values.constant(r), cap]
         }
+        _ => [16, frame, target, a, 0, 0],
     }
 }
 
@@ -70,15 +71,33 @@ fn tasks(r: &Random, values: &Values, sizes: Sizes) -> Vec<Row> {
     };
     let mut frames: Vec<_> = (0..count).map(|_| r.below(sizes[1]) as u64).collect();
     frames.sort();
-    // Either all kinds in turn or any kinds, one of them more often.
-    let (in_turn, favourite) = (r.one_in(2), r.below(6));
+    // All kinds in turn, or any kinds, one of them more often, or mostly cams and Takes.
+    let cams = values.positions() && !r.one_in(4);
+    let (in_turn, favourite) = (!cams && r.one_in(2), r.below(7));
     let row = |(number, frame)| {
-        let any = r.pick(&[favourite, r.below(6), r.below(6)]);
-        let kind = 10 + if in_turn { (number + favourite) % 6 } else { any } as u64;
+        let any = match cams {
+            true => r.pick(&[0, 6, r.below(7)]),
+            false => r.pick(&[favourite, r.below(7), r.below(7)]),
+        };
+        let kind = 10 + if in_turn { (number + favourite) % 7 } else { any } as u64;
         let target = r.below(sizes[2]) as u64;
         task(r, values, sizes, kind, [frame, target])
     };
-    frames.into_iter().enumerate().map(row).collect()
+    let mut rows: Vec<_> = frames.into_iter().enumerate().map(row).collect();
+    if cams {
+        read_sensors(r, &mut rows);
+    }
+    rows
+}
+
+/// Lets most cams read the target of a Take, so that their positions come from sensors.
+fn read_sensors(r: &Random, tasks: &mut [Row]) {
+    let taken: Vec<_> = tasks.iter().filter(|row| row[0] == 10).map(|row| row[2]).collect();
+    for row in tasks.iter_mut().filter(|row| row[0] == 16) {
+        if !taken.is_empty() && !r.one_in(3) {
+            row[3] = r.pick(&taken);
+        }
+    }
 }
 
 /// Each cell is made of the one before it, last cell first, all in one frame: nothing is voted,
@@ -87,7 +106,7 @@ pub fn chain(r: &Random, values: &Values, sizes: Sizes) -> Vec<Row> {
     let frame = r.below(sizes[1]) as u64;
     let mut rows = Vec::new();
     for target in (1..sizes[2] as u64).rev() {
-        let kind = r.between(11, 14) as u64;
+        let kind = r.pick(&[11, 12, 13, 14, 16]);
         let mut row = task(r, values, sizes, kind, [frame, target]);
         row[3] = target - 1;
         if kind < 13 {

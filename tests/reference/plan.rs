@@ -19,7 +19,7 @@ pub fn refuse<T>(number: u64, line: usize) -> Result<T, Refusal> {
     Err(Refusal { number, line })
 }
 
-/// The six kinds of task; cells and sensors by index, constants as patterns.
+/// The seven kinds of task; cells and sensors by index, constants as patterns.
 #[derive(Clone, Copy, Debug)]
 pub enum Action {
     Take { sensor: usize },
@@ -28,6 +28,7 @@ pub enum Action {
     Scale { a: usize, factor: u64 },
     Limit { a: usize, low: u64, high: u64 },
     Wind { a: usize, rate: u64, cap: u64 },
+    Cam { a: usize },
 }
 
 #[derive(Clone, Copy, Debug)]
@@ -127,7 +128,7 @@ impl Reader {
         })
     }
 
-    /// Against 4: "The order is: one header; cells 0 to C-1; tasks (kinds 10-15), at most 64,
+    /// Against 4: "The order is: one header; cells 0 to C-1; tasks (kinds 10-16), at most 64,
     /// frames not falling; votes, strictly rising by frame, then cell; actuators 0 to A-1."
     fn in_order(&self, row: &Row) -> bool {
         let plan = &self.plan;
@@ -135,7 +136,7 @@ impl Reader {
         let no_actuator = plan.outputs.is_empty();
         match row[0] {
             1 => !cells_done && row[1] == plan.initial.len() as u64,
-            10..=15 => {
+            10..=16 => {
                 let no_vote = self.vote.is_none();
                 let due = cells_done && no_vote && no_actuator;
                 due && self.tasks < MOST_TASKS && row[1] >= self.task_frame
@@ -170,6 +171,8 @@ impl Reader {
                 let sign_clear = sixth >> 63 == 0;
                 place && cell(fourth) && finite(fifth) && finite(sixth) && sign_clear
             }
+            // "The columns of Sum but 0 as fifth."
+            16 => place && cell(fourth) && fifth == 0 && sixth == 0,
             20 => place && fourth == 0 && fifth == 0 && sixth == 0,
             _ => cell(third) && fourth == 0 && fifth == 0 && sixth == 0,
         }
@@ -190,7 +193,8 @@ impl Reader {
             12 => Action::Diff { a, b: fifth as usize },
             13 => Action::Scale { a, factor: fifth },
             14 => Action::Limit { a, low: fifth, high: sixth },
-            _ => Action::Wind { a, rate: fifth, cap: sixth },
+            15 => Action::Wind { a, rate: fifth, cap: sixth },
+            _ => Action::Cam { a },
         };
         self.tasks += 1;
         self.task_frame = second;
@@ -254,13 +258,13 @@ impl Plan {
 
     /// "In each later frame, tasks in order: a task's target becomes known if all cells it reads
     /// are known, unknown otherwise (Take reads none; Wind reads its target too); then the cells
-    /// voted in that frame become known."
+    /// voted in that frame become known." Cam "reads cell a".
     fn known_next(&self, frame: usize, known: &mut [bool]) {
         for task in &self.tasks[frame] {
             known[task.target] = match task.action {
                 Action::Take { .. } => true,
                 Action::Sum { a, b } | Action::Diff { a, b } => known[a] && known[b],
-                Action::Scale { a, .. } | Action::Limit { a, .. } => known[a],
+                Action::Scale { a, .. } | Action::Limit { a, .. } | Action::Cam { a } => known[a],
                 Action::Wind { a, .. } => known[a] && known[task.target],
             };
         }

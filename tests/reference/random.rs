@@ -61,6 +61,21 @@ const EDGES: [u64; 28] = [
     0x3FD5_5555_5555_5555, 0x5FE0_0000_0000_0000,
 ];
 
+/// A cam's positions at the edges of its cases.
+#[rustfmt::skip]
+const POSITIONS: [u64; 25] = [
+    // The zeros; just below 0, -1/2, -1, -infinity; NaNs of both signs.
+    0, 1 << 63, 0x8000_0000_0000_0001, 0xBFE0_0000_0000_0000, 0xBFF0_0000_0000_0000,
+    0xFFF0_0000_0000_0000, 0x7FF8_0000_0000_0000, 0xFFF8_0000_0000_0000, 0x7FF0_0000_0000_0001,
+    0xFFFF_FFFF_FFFF_FFFF,
+    // Just above 0, 1/2, just below 1, 1; 255.5, just below 256, 256.
+    1, 0x3FE0_0000_0000_0000, 0x3FEF_FFFF_FFFF_FFFF, 0x3FF0_0000_0000_0000, 0x406F_F000_0000_0000,
+    0x406F_FFFF_FFFF_FFFF, 0x4070_0000_0000_0000,
+    // 511, 511.99, just below 512, 512, just above 512; 2^32 + 1, 2^64, infinity.
+    0x407F_F000_0000_0000, 0x407F_FFD7_0A3D_70A4, 0x407F_FFFF_FFFF_FFFF, 0x4080_0000_0000_0000,
+    0x4080_0000_0000_0001, 0x41F0_0000_0010_0000, 0x43F0_0000_0000_0000, 0x7FF0_0000_0000_0000,
+];
+
 /// Where a case takes its patterns from: a few that come again and again, so that values meet and
 /// votes agree or tie, and fresh ones of the same taste.
 pub struct Values {
@@ -70,8 +85,9 @@ pub struct Values {
 
 impl Values {
     pub fn new(r: &Random) -> Values {
-        let mut values = Values { taste: r.below(6), pool: Vec::new() };
-        for _ in 0..r.between(1, 6) {
+        let mut values = Values { taste: r.below(9), pool: Vec::new() };
+        let most = if values.positions() { 12 } else { 6 };
+        for _ in 0..r.between(1, most) {
             let pattern = values.fresh(r);
             values.pool.push(pattern);
         }
@@ -84,8 +100,14 @@ impl Values {
             2 => ((r.between(0, 2000) as f64 - 1000.0) / 10.0).to_bits(),
             3 => r.pick(&[0, 0, 0, 1 << 63, 1.0f64.to_bits(), (-1.0f64).to_bits()]),
             4 => finite(r),
-            _ => strange(r),
+            5 => strange(r),
+            _ => position(r),
         }
+    }
+
+    /// Whether the patterns are positions for cams.
+    pub fn positions(&self) -> bool {
+        self.taste > 5
     }
 
     pub fn any(&self, r: &Random) -> u64 {
@@ -108,6 +130,18 @@ impl Values {
 
 fn sensible(r: &Random) -> u64 {
     ((r.below(33) as f64 - 16.0) * r.pick(&[1.0, 0.5, 0.25])).to_bits()
+}
+
+/// A position for a cam: an edge, a whole number, a neighbour of one, a half, any from 0 to 512.
+fn position(r: &Random) -> u64 {
+    let whole = r.below(513) as f64;
+    match r.below(8) {
+        0..=3 => r.pick(&POSITIONS),
+        4 => whole.to_bits(),
+        5 => whole.to_bits().wrapping_add(r.below(3) as u64).wrapping_sub(1),
+        6 => (whole + 0.5).to_bits(),
+        _ => (r.next() as f64 / 2f64.powi(55)).to_bits(),
+    }
 }
 
 /// Any pattern: an edge, a neighbour of an edge or of a sensible number, a NaN, any 64 bits.

@@ -1,11 +1,16 @@
-//! Document 01's short table and plan K, refusals worked out by hand, and the premise of demand 3.
+//! Document 01's short table and plan K, cams and refusals worked out by hand, and the premise of
+//! demand 3.
+
+use std::collections::{BTreeMap, BTreeSet};
 
 use super::calls;
 use super::cases::{case, class_of, CLASSES};
-use super::frame::{fault_length, limit, message_length, plane, Memory, System};
+use super::frame::{
+    cam, cam_entry, fault_length, limit, message_length, plane, task_result, Memory, System,
+};
 use super::generate::plan_text;
 use super::listing::listing;
-use super::plan::{parse, read, refuse, Plan, Row, LINE};
+use super::plan::{parse, read, refuse, Action, Plan, Row, LINE};
 
 const K: [Row; 7] = [
     [0, 3, 2, 2, 1, 1],
@@ -19,6 +24,16 @@ const K: [Row; 7] = [
 
 const ONE_CELL: [Row; 4] =
     [[0, 3, 1, 1, 1, 1], [1, 0, 0, 0, 0, 0], [10, 0, 0, 0, 0, 0], [30, 0, 0, 0, 0, 0]];
+
+/// The position of a cutter into cell 0, its cam into cell 1.
+const CUTTER: [Row; 6] = [
+    [0, 3, 1, 2, 1, 1],
+    [1, 0, 0, 0, 0, 0],
+    [1, 1, 0, 0, 0, 0],
+    [10, 0, 0, 0, 0, 0],
+    [16, 0, 1, 0, 0, 0],
+    [30, 0, 1, 0, 0, 0],
+];
 
 const NAN: u64 = 0x7FF8_0000_0000_0000;
 const MINUS: u64 = 1 << 63;
@@ -142,6 +157,60 @@ fn row_13_counter_65535() {
     assert_eq!(message, sent);
 }
 
+/// "So entries 0, 256 and 512 are 0, 32,768 and 65,536."
+#[test]
+fn entries_of_the_cam() {
+    assert_eq!([0, 256, 512].map(cam_entry), [0, 32_768, 65_536]);
+    // 2558 / 2048, 7152 / 2048, 14,794 / 2048; 66,716,674 / 2048, 134,217,218 / 2048.
+    assert_eq!([1, 2, 3, 255, 511].map(cam_entry), [1, 3, 7, 32_576, 65_535]);
+    for i in 0..=512 {
+        let rest = 1536 * i * i - 2 * i * i * i + 1024 - 2048 * cam_entry(i as u64) as i64;
+        assert!((0..2048).contains(&rest), "entry {i}");
+    }
+}
+
+/// "Takes the entry at the whole part, as a float. Below 0 or NaN gives entry 0; above 512 gives
+/// entry 512."
+#[test]
+fn positions_of_a_cam() {
+    let next = |position: f64| f64::from_bits(position.to_bits() + 1);
+    let before = |position: f64| f64::from_bits(position.to_bits() - 1);
+    let gives = |positions: &[f64], entry: f64| {
+        for position in positions {
+            assert_eq!(cam(position.to_bits()), entry.to_bits(), "{position}");
+        }
+    };
+    // The patterns next to those of the two zeros are the least values above and below 0.
+    gives(&[-0.0, next(-0.0), -0.5, -1.0, -256.0, -1e300, f64::NEG_INFINITY], 0.0);
+    gives(&[0.0, next(0.0), 0.25, 0.5, before(1.0)], 0.0);
+    gives(&[1.0, 1.5, before(2.0)], 1.0);
+    gives(&[2.0, 2.75], 3.0);
+    gives(&[255.0, 255.5, before(256.0)], 32_576.0);
+    gives(&[256.0, next(256.0)], 32_768.0);
+    gives(&[511.0, 511.5, 511.99, before(512.0)], 65_535.0);
+    gives(&[512.0, next(512.0), 512.5, 513.0, 65_536.0, 1e300, f64::INFINITY], 65_536.0);
+    for nan in [NAN, NAN | MINUS, 0x7FF << 52 | 1, u64::MAX] {
+        assert_eq!(cam(nan), 0, "{nan:x}");
+    }
+}
+
+#[test]
+fn recovery_with_cams() {
+    // A cam reads cell a only: its target need not be known.
+    assert_eq!(period(&CUTTER), Some(2));
+    // The cam stands before the Take.
+    assert_eq!(period(&with(&without(&CUTTER, 5), 4, CUTTER[4])), Some(3));
+    // A cam of a cell that is never known.
+    assert_eq!(refused(&changed(&ONE_CELL, 3, &[(0, 16)])), (6, 0));
+    assert_eq!(refused(&changed(&CUTTER, 5, &[(3, 1)])), (6, 0));
+    let voted = with(&changed(&CUTTER, 5, &[(3, 1)]), 6, [20, 0, 1, 0, 0, 0]);
+    assert_eq!(period(&voted), Some(2));
+    // The Take in frame 0, the cam in frame 1; its cell voted there or not.
+    let cam = changed(&K, 5, &[(0, 16), (4, 0)]);
+    assert_eq!(period(&cam), Some(3));
+    assert_eq!(period(&without(&cam, 6)), Some(4));
+}
+
 /// Voted cells are those of the frame before the voted counter, not of the node's own.
 #[test]
 fn votes_of_the_resulting_counter() {
@@ -201,6 +270,17 @@ fn words_of_k() {
     assert_eq!((calls::plan_write(None, &mut text[..398], &mut count), count), (7, 0));
 }
 
+#[test]
+fn words_of_a_cam() {
+    let mut words = vec![7; 446];
+    assert_eq!(calls::plan_read(&plan_text(&CUTTER), &mut words), 0);
+    assert_eq!(words[44..50], [16, 0, 1, 0, 0, 0]);
+    let (mut count, mut text) = (9, vec![255; 342]);
+    let plan = calls::plan_of(&words);
+    assert_eq!((calls::plan_write(plan.as_ref(), &mut text, &mut count), count), (0, 342));
+    assert_eq!(text, plan_text(&CUTTER));
+}
+
 /// 7: words that no accepted text has.
 #[test]
 fn words_that_are_no_plan() {
@@ -220,8 +300,12 @@ fn words_that_are_no_plan() {
     assert!(!with(&[(5, 3)]), "frames that fall");
     assert!(with(&[(5, 3), (51, 1)]), "a third task, of frame 1");
     assert!(!with(&[(50, 11)]) && !with(&[(50, 0)]) && !with(&[(38 + 6 * 63 + 5, 1)]));
-    assert!(!with(&[(38, 16)]) && !with(&[(38, 1)]) && !with(&[(38, 20)]) && !with(&[(38, 266)]));
+    assert!(!with(&[(38, 17)]) && !with(&[(38, 1)]) && !with(&[(38, 20)]) && !with(&[(38, 266)]));
     assert!(!with(&[(49, 1)]), "an unused field of a Sum");
+    assert!(with(&[(44, 16), (48, 0)]), "a cam in place of the Sum");
+    assert!(!with(&[(44, 16)]) && !with(&[(44, 16), (48, 0), (49, 1)]), "unused fields of a cam");
+    assert!(!with(&[(44, 17), (48, 0)]) && !with(&[(44, 272), (48, 0)]), "kinds close to it");
+    assert!(!with(&[(44, 16), (47, 2), (48, 0)]), "a cam of a cell past the cells");
     assert!(!with(&[(423, 6)]) && !with(&[(423, 2 | 1 << 32)]) && !with(&[(424, 1)]));
     assert!(!with(&[(438, 2)]) && !with(&[(439, 1)]));
     assert!(calls::plan_of(&k_words()[..445]).is_none() && calls::plan_of(&[]).is_none());
@@ -289,6 +373,18 @@ fn listing_of_k() {
     assert_eq!(printed(&plan_text(&without(&K, 6)), b"x"), "   6       0\n");
 }
 
+/// All nodes and the single controller run the cam.
+#[test]
+fn listing_of_a_cutter() {
+    let positions = [0.0, 1.0, 255.5, 256.0, 511.99, 512.0, 600.0, -1.0, -0.0, f64::NAN];
+    let entries = [0.0, 1.0, 32_576.0, 32_768.0, 65_535.0, 65_536.0, 65_536.0, 0.0, 0.0, 0.0f64];
+    let line = |position: &f64| format!("   0   0{:20}\n", position.to_bits());
+    let run: String = positions.iter().map(line).collect();
+    let line = |(frame, entry): (usize, &f64)| format!("{frame:8}   3   3{:20}\n", entry.to_bits());
+    let expected: String = entries.iter().enumerate().map(line).collect();
+    assert_eq!(listing(&plan_text(&CUTTER), run.as_bytes()).bytes, expected.as_bytes());
+}
+
 #[test]
 fn lengths() {
     let text = plan_text(&K);
@@ -318,10 +414,11 @@ fn precedence_in_one_line() {
     assert_eq!(refused(&without(&K, 1)), (3, 1));
     assert_eq!(refused(&changed(&K, 1, &[(4, (1 << 32) + 1)])), (3, 1));
     // 2 before 4 and 5: an unknown kind, a bad index and a bad column.
-    assert_eq!(refusal(&text_with(&changed(&K, 4, &[(0, 16), (2, 2)]), 4, 5, "-0")), (2, 4));
+    assert_eq!(refusal(&text_with(&changed(&K, 4, &[(0, 17), (2, 2)]), 4, 5, "-0")), (2, 4));
     assert_eq!(refusal(&text_with(&changed(&K, 4, &[(2, 2)]), 4, 5, "-0")), (2, 4));
     // 4 before 5.
-    assert_eq!(refused(&changed(&K, 4, &[(0, 16), (2, 2)])), (4, 4));
+    assert_eq!(refused(&changed(&K, 4, &[(0, 17), (2, 2)])), (4, 4));
+    assert_eq!(refused(&changed(&K, 4, &[(0, 16), (2, 2)])), (5, 4));
     assert_eq!(refused(&changed(&K, 4, &[(2, 2)])), (5, 4));
     assert_eq!(refused(&changed(&K, 3, &[(1, 2), (2, 1)])), (4, 3));
     assert_eq!(refused(&with(&K, 7, [20, 0, 9999, 0, 0, 0])), (4, 7));
@@ -373,6 +470,35 @@ fn rules() {
     assert_eq!(refused(&changed(&K, 7, &[(2, 2)])), (5, 7));
 }
 
+/// "Kind 16, with the columns of Sum but 0 as fifth."
+#[test]
+fn refusals_of_a_cam() {
+    let task = |row: Row| refused(&with(&K, 6, row));
+    assert_eq!(task([16, 1, 1, 0, 0, 0]), (0, 0));
+    assert_eq!(task([16, 1, 1, 1, 0, 0]), (0, 0));
+    for unused in [1, 1 << 32, MINUS, NAN, u64::MAX] {
+        assert_eq!(task([16, 1, 1, 0, unused, 0]), (5, 6));
+        assert_eq!(task([16, 1, 1, 0, 0, unused]), (5, 6));
+    }
+    assert_eq!(task([16, 1, 1, 2, 0, 0]), (5, 6));
+    assert_eq!(task([16, 1, 1, 256, 0, 0]), (5, 6));
+    assert_eq!(task([16, 1, 2, 0, 0, 0]), (5, 6));
+    assert_eq!(task([16, 2, 1, 0, 0, 0]), (5, 6));
+    // 4: unknown kinds close to it; a falling frame, a cam after a vote or an actuator, a cell due.
+    assert_eq!(task([17, 1, 1, 0, 0, 0]), (4, 6));
+    assert_eq!(task([19, 1, 1, 0, 0, 0]), (4, 6));
+    assert_eq!(task([272, 1, 1, 0, 0, 0]), (4, 6));
+    assert_eq!(task([16, 0, 9999, 0, 1, 0]), (4, 6));
+    assert_eq!(refused(&with(&K, 7, [16, 1, 1, 0, 0, 0])), (4, 7));
+    assert_eq!(refused(&with(&K, 8, [16, 1, 1, 0, 0, 0])), (4, 8));
+    assert_eq!(refused(&with(&K, 3, [16, 1, 1, 0, 0, 0])), (4, 3));
+    assert_eq!(refused(&changed(&K, 1, &[(0, 16)])), (3, 1));
+    let mut full = K.to_vec();
+    (2..64).for_each(|_| full.insert(5, [16, 1, 1, 0, 0, 0]));
+    assert_eq!(refused(&full), (0, 0));
+    assert_eq!(refused(&with(&full, 68, [16, 1, 1, 0, 0, 0])), (4, 68));
+}
+
 /// The longest recovery period is 1 + F x C, which the chains of class "slow recovery" reach.
 #[test]
 fn slow_recovery_reaches_the_bound() {
@@ -382,23 +508,72 @@ fn slow_recovery_reaches_the_bound() {
     assert!(plans.iter().any(|plan| plan.period == 513));
 }
 
+/// Mask, fill and sensors of the lines of a whole run.
+fn frames(plan: &Plan, run: Vec<u8>) -> Vec<(u64, u8, Vec<u64>)> {
+    let frame = |line: &str| {
+        let column = |from: usize, to: usize| line[from..to].trim().parse::<u64>().unwrap();
+        let sensor = |sensor: usize| column(8 + 20 * sensor, 28 + 20 * sensor);
+        (column(0, 4), column(4, 8) as u8, (0..plan.sensors).map(sensor).collect())
+    };
+    String::from_utf8(run).unwrap().lines().map(frame).collect()
+}
+
+/// The case of a cam's position.
+fn position_case(pattern: u64) -> &'static str {
+    let position = f64::from_bits(pattern);
+    match position {
+        _ if position.is_nan() && pattern < MINUS => "NaN, sign bit 0",
+        _ if position.is_nan() => "NaN, sign bit 1",
+        _ if pattern == MINUS => "-0",
+        _ if position < 0.0 => "below 0",
+        _ if position < 1.0 => "from 0 to below 1",
+        _ if position == 512.0 => "512",
+        _ if position == f64::INFINITY => "infinity",
+        _ if position > 512.0 => "above 512",
+        _ if position > 511.0 => "between 511 and 512",
+        _ if position.fract() == 0.0 => "whole",
+        _ => "between whole numbers",
+    }
+}
+
+/// The generated runs have cams, in every case of a position: here those of the single controller.
+#[test]
+fn runs_have_cams_in_each_case() {
+    let (mut runs, mut with_cams, mut seen) = (0, 0, BTreeMap::new());
+    let classes = ["within the premise", "outside the premise", "longest plan", "long run"];
+    for case in (0..4000).map(case).filter(|case| classes.contains(&case.class)) {
+        let plan = read(&case.plan.unwrap()).unwrap();
+        let (mut single, mut here) = (Memory::power_on(&plan), BTreeSet::new());
+        for (_, _, sensors) in frames(&plan, case.run.unwrap()) {
+            let mut cells = single.cells.clone();
+            for task in &plan.tasks[usize::from(single.counter)] {
+                if let Action::Cam { a } = task.action {
+                    here.insert(position_case(cells[a]));
+                }
+                cells[task.target] = task_result(task, &cells, &sensors);
+            }
+            single.compute(&plan, &sensors);
+        }
+        runs += 1;
+        with_cams += usize::from(!here.is_empty());
+        here.into_iter().for_each(|case| *seen.entry(case).or_insert(0) += 1);
+    }
+    println!("{with_cams} of {runs} runs have cams; by case of their positions {seen:?}");
+    assert!(2 * with_cams > runs && seen.len() == 11 && seen.values().all(|&runs| runs > 20));
+}
+
 /// Demand 3: within its premise the plane hands on the single controller's setpoints, and the
 /// working nodes' memories equal the single controller's.
 #[test]
 fn within_the_premise_the_system_is_the_single_controller() {
     for case in (0..1000).map(case).filter(|case| case.class == "within the premise") {
         let plan = read(&case.plan.unwrap()).unwrap();
-        let run = String::from_utf8(case.run.unwrap()).unwrap();
         let mut system = System::power_on(&plan);
         let mut single = Memory::power_on(&plan);
         let mut place = vec![0; plan.actuators];
-        for line in run.lines() {
-            let column = |from: usize, to: usize| line[from..to].trim().parse::<u64>().unwrap();
-            let sensors: Vec<_> =
-                (0..plan.sensors).map(|sensor| column(8 + 20 * sensor, 28 + 20 * sensor)).collect();
-            let faults = vec![column(4, 8) as u8; fault_length(&plan)];
+        for (mask, fill, sensors) in frames(&plan, case.run.unwrap()) {
+            let faults = vec![fill; fault_length(&plan)];
             let before = system.counts.clone();
-            let mask = column(0, 4);
             let working = system.frame(&plan, &sensors, mask, &faults, &mut place);
             single.compute(&plan, &sensors);
             assert!(2 * working > plan.nodes);

@@ -5,3 +5,4 @@ pub mod WordLaws
 pub mod BitLaws
 pub mod PlacedLaws
 pub mod LoopLaws
+pub mod TableLaws

@@ -54,11 +54,13 @@ fn on_rows(
     let mut counters = [0u16; rows::step::ROWS];
     let mut cells = [0u64; rows::step::WORDS];
     rows::step::unpack(system, &mut counters, &mut cells);
+    let cams = cam::table();
     row_frame::step::frame(
         plan,
         s,
         1,
         sensors,
+        &cams,
         mask,
         faults,
         &mut counters,

@@ -14,6 +14,7 @@ ghost use Rattle.plan.specs.Known.{period as periodOf};
 ghost use Rattle.plan.specs.Limits.{mostNodes, mostSensors, mostActuators};
 ghost use Rattle.array.specs.Place.{placed};
 ghost use Rattle.plan.specs.Sizes.{sizesOf};
+ghost use Rattle.cam.specs.Cam.{camTable};
 ghost use Rattle.system.specs.Fault.{faultsSize};
 ghost use Rattle.faults.specs.Code.{Parts, Held, BadHold};
 ghost use Rattle.rows.specs.Code.{rowCount, wordCount, memoryIn, Rows};
@@ -234,6 +235,7 @@ fn finish_line(
     plan: Plan,
     s: Sizes,
     sensors: &[u64],
+    cams: &[u32; cam::SIZE],
     mask: u64,
     faults: &[u8],
     frame: usize,
@@ -242,7 +244,7 @@ fn finish_line(
     good: &mut [u16; System::NODES],
     out: &mut [u8],
 )
-    requires { ⌜ (accepted plan ≡ true) × (s ≡ sizesOf plan) × (length (now sensors) ≡ plan .sensors) × Parts s mask (length (now faults)) × (length (now counters) ≡ rowCount) × (length (now cells) ≡ wordCount) × (length (now out) ≡ printedSize (plan .actuators)) ⌝ }
+    requires { ⌜ (accepted plan ≡ true) × (s ≡ sizesOf plan) × (length (now sensors) ≡ plan .sensors) × Parts s mask (length (now faults)) × (length (now counters) ≡ rowCount) × (length (now cells) ≡ wordCount) × (length (now out) ≡ printedSize (plan .actuators)) × (now cams ≡ camTable) ⌝ }
     ensures { λ _. ⌜ ((sys : System) (x : ℕ) → Rows sys (now (counters .entry)) (now (cells .entry)) (now (good .entry)) → BadHold s mask (now (faults .entry)) x → Rows (systemNext plan sys (mask ∷ x ∷ now (sensors .entry))) (now (counters .exit)) (now (cells .exit)) (now (good .exit)) × (memoryIn (now (counters .exit)) (now (cells .exit)) 0 ≡ singleAfter plan (memoryIn (now (counters .entry)) (now (cells .entry)) 0) (mask ∷ x ∷ now (sensors .entry))) × (now (out .exit) ≡ frameLine plan sys (memoryIn (now (counters .entry)) (now (cells .entry)) 0) frame (mask ∷ x ∷ now (sensors .entry)))) ⌝ }
 {
     let nodes = s.nodes;
@@ -254,6 +256,7 @@ fn finish_line(
         s,
         0,
         sensors,
+        cams,
         mask,
         faults,
         counters,
@@ -272,6 +275,7 @@ fn line_on_rows(
     s: Sizes,
     read: LineRead,
     patterns: &[u64; Plan::SENSORS],
+    cams: &[u32; cam::SIZE],
     frame: usize,
     held: &mut [u8; System::NODES],
     faults: &mut [u8],
@@ -280,7 +284,7 @@ fn line_on_rows(
     good: &mut [u16; System::NODES],
     out: &mut [u8],
 ) -> bool
-    requires { ⌜ (accepted plan ≡ true) × (s ≡ sizesOf plan) × OfLine plan frame (lineRead read (take (plan .sensors) (now patterns))) × (length (now held) ≡ mostNodes) × (length (now faults) ≡ faultsSize s) × Held s (now held) (now faults) × (length (now counters) ≡ rowCount) × (length (now cells) ≡ wordCount) × (length (now out) ≡ printedSize (plan .actuators)) ⌝ }
+    requires { ⌜ (accepted plan ≡ true) × (s ≡ sizesOf plan) × OfLine plan frame (lineRead read (take (plan .sensors) (now patterns))) × (length (now held) ≡ mostNodes) × (length (now faults) ≡ faultsSize s) × Held s (now held) (now faults) × (length (now counters) ≡ rowCount) × (length (now cells) ≡ wordCount) × (length (now out) ≡ printedSize (plan .actuators)) × (now cams ≡ camTable) ⌝ }
     ensures { λ r. ⌜ (length (now (held .exit)) ≡ mostNodes) × Held s (now (held .exit)) (now (faults .exit)) × ((sys : System) → Rows sys (now (counters .entry)) (now (cells .entry)) (now (good .entry)) → LineMade plan sys (memoryIn (now (counters .entry)) (now (cells .entry)) 0) frame (lineRead read (take (plan .sensors) (now (patterns .entry)))) (now (out .entry)) r (now (counters .exit)) (now (cells .exit)) (now (good .exit)) (now (out .exit))) ⌝ }
 {
     let LineRead::Whole(mask, fill) = read else {
@@ -293,6 +297,7 @@ fn line_on_rows(
         plan,
         s,
         &all[0..sensors],
+        cams,
         mask,
         faults,
         frame,
@@ -319,6 +324,7 @@ pub fn line(
 {
     let s = plan::sizes_with(plan, period);
     let size = faults::step::size(s);
+    let cams = cam::table();
     let mut held = [0u8; System::NODES];
     let mut faults = [0u8; faults::step::MOST];
     let mut good = system.good;
@@ -333,6 +339,7 @@ pub fn line(
         s,
         read,
         &patterns,
+        &cams,
         frame,
         &mut held,
         &mut faults[0..size],
@@ -396,6 +403,7 @@ pub fn lines(
     let size = line_size(plan.sensors);
     let width = printed_size(plan.actuators);
     let len = rest.len();
+    let cams = cam::table();
     let s = plan::sizes_with(plan, period);
     let mut good = system.good;
     let mut counters = [0u16; rows::step::ROWS];
@@ -421,6 +429,7 @@ pub fn lines(
             s,
             read,
             &patterns,
+            &cams,
             frame,
             held,
             faults,

@@ -28,6 +28,7 @@ pub fn compute(plan: Plan, memory: Memory, sensors: &[u64]) -> Memory
     let count = plan.task_count;
     let counter = memory.counter as usize;
     let g = counter % frames;
+    let cams = cam::table();
     let mut cells = memory.cells;
     let mut k: usize = 0;
     while k < count {
@@ -37,7 +38,7 @@ pub fn compute(plan: Plan, memory: Memory, sensors: &[u64]) -> Memory
         }
         if frame == g {
             let t = plan.tasks[k];
-            task::step::run_task(&mut cells, t, sensors);
+            task::step::run_task(&mut cells, t, sensors, &cams);
         }
         k += 1;
     }

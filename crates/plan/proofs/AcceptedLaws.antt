@@ -8,16 +8,18 @@ use native.Mathlib.Nat.{mul-le-mul}
 use lib.Dec.{eqb, ltb, lit<}
 use lib.ListN.{length, getD, List·getD-eq-default}
 use borrow.Author.Tests.{ltb-true, ltb-false, leb-true, eqb-true, eqb-false, lt-ltb, le-ltb, le-leb, eq-eqb, ne-eqb, not-true, not-false}
-use Rattle.array.specs.Index.{allBelow}
+use lib.Ieee.{Float}
+use Rattle.array.specs.Index.{allBelow, allIn}
 use Rattle.array.proofs.TestLaws.{split, clash, and-left, and-right, and-both}
-use Rattle.array.proofs.IndexLaws.{allBelow-at, allBelow-all}
+use Rattle.array.proofs.IndexLaws.{allBelow-at, allBelow-all, allIn-at, allIn-all}
+use Rattle.pattern.specs.declared.WindLaw.{WindLaw}
 use Rattle.plan.specs.declared.Op.{Op}
-use Rattle.plan.specs.declared.Op.the-variants.{Take, Sum, Diff, Scale, Limit, Wind}
+use Rattle.plan.specs.declared.Op.the-variants.{Take, Sum, Diff, Scale, Limit, Wind, Cam}
 use Rattle.plan.specs.declared.Task.{Task}
 use Rattle.plan.specs.declared.Plan.{Plan}
 use Rattle.plan.specs.Limits.{leastNodes, mostNodes, mostFrames, mostCells, mostSensors, mostActuators, mostTasks}
-use Rattle.plan.specs.Known.{unusedTask, taskAt, votedIn, period}
-use Rattle.plan.specs.Accepted.{headerOk, opOk, taskOk, isZeroTake, isUnused, notFalling, taskEntry, initialEntry, voteEntry, actuatorEntry, entriesOk, opStorable, storable, wellFormed, accepted}
+use Rattle.plan.specs.Known.{unusedTask, taskAt, votedIn, reads, period}
+use Rattle.plan.specs.Accepted.{headerOk, constantsOk, opOk, taskOk, isZeroTake, isUnused, notFalling, taskEntry, initialEntry, voteEntry, actuatorEntry, entriesOk, opStorable, storable, wellFormed, accepted}
 
 -- what `wellFormed` says, and no more: the laws `shape-of` and `wellFormed-of`
 pub record Shape (p : Plan) : Type 0 where
@@ -69,6 +71,7 @@ zeroTake-is (Diff a b) e = absurd (clash e refl)
 zeroTake-is (Scale a factor) e = absurd (clash e refl)
 zeroTake-is (Limit a low high) e = absurd (clash e refl)
 zeroTake-is (Wind a law) e = absurd (clash e refl)
+zeroTake-is (Cam a) e = absurd (clash e refl)
 
 unused-is : (t : Task) → isUnused t ≡ true → t ≡ unusedTask
 unfolding isUnused
@@ -240,6 +243,51 @@ module _ (p : Plan) (s : Shape p) where
       let v = allBelow-all (λ g. allBelow (voteEntry p g) mostCells) mostFrames (λ g l. allBelow-all (voteEntry p g) mostCells (vote-holds g)) in
       let a = allBelow-all (actuatorEntry p) mostActuators (λ i l. actuator-holds i) in
       search (and-both, storable-holds, header-holds) depth 8
+
+-- ---- a task that passes: its cells and its sensor are in range
+
+allIn-wider : (n k : ℕ) (l : List ℕ) → n ≤ k → allIn (λ c. ltb c n) l ≡ true → allIn (λ c. ltb c k) l ≡ true
+allIn-wider n k l w e =
+    allIn-all (λ c. ltb c k) l (λ x i. lt-ltb x k (omega (arith, ltb-true x n (allIn-at (λ c. ltb c n) l e i))))
+
+opOk-wider : (n k m t : ℕ) (o : Op) → n ≤ k → opOk n m t o ≡ true → opOk k m t o ≡ true
+unfolding opOk
+opOk-wider n k m t o w h = and-both (allIn-wider n k (reads o t) w (and-left _ _ h)) (and-right (allIn (λ c. ltb c n) (reads o t)) _ h)
+
+-- for the code, which has all cells of a memory
+pub op-in : (p : Plan) (s : Shape p) (k : ℕ) {n : ℕ} → k < p .«task_count» → n ≡ p .sensors → opOk mostCells n (taskAt p k .target) (taskAt p k .op) ≡ true
+op-in p s k l e = rw e (opOk-wider (p .cells) mostCells (p .sensors) (taskAt p k .target) (taskAt p k .op) (s .cells-le) (s .op k l))
+
+module _ (n m t : ℕ) {o : Op} (h : opOk n m t o ≡ true) where
+  pub take-in : {s : ℕ} → o ≡ Take s → s < m
+  unfolding opOk constantsOk
+  take-in e = let k = rw e at h in search said
+
+  -- of a list with n entries
+  module _ {l : ℕ} (w : l ≡ n) where
+    pub sum-in : {a b : ℕ} → o ≡ Sum a b → (a < l) × (b < l)
+    unfolding opOk reads allIn
+    sum-in e = let k = rw e at h in rw w (search said, search said)
+
+    pub diff-in : {a b : ℕ} → o ≡ Diff a b → (a < l) × (b < l)
+    unfolding opOk reads allIn
+    diff-in e = let k = rw e at h in rw w (search said, search said)
+
+    pub scale-in : {a : ℕ} {factor : Float} → o ≡ Scale a factor → a < l
+    unfolding opOk reads allIn
+    scale-in e = let k = rw e at h in rw w (search said)
+
+    pub limit-in : {a : ℕ} {low high : Float} → o ≡ Limit a low high → a < l
+    unfolding opOk reads allIn
+    limit-in e = let k = rw e at h in rw w (search said)
+
+    pub wind-in : {a : ℕ} {law : WindLaw} → o ≡ Wind a law → (a < l) × (t < l)
+    unfolding opOk reads allIn
+    wind-in e = let k = rw e at h in rw w (search said, search said)
+
+    pub cam-in : {a : ℕ} → o ≡ Cam a → a < l
+    unfolding opOk reads allIn
+    cam-in e = let k = rw e at h in rw w (search said)
 
 -- ---- an accepted record
 

@@ -21,7 +21,7 @@ use Rattle.array.specs.Index.{allBelow, allIn}
 use Rattle.array.proofs.IndexLaws.{allBelow-at, allBelow-all}
 use Rattle.array.proofs.TestLaws.{and-both}
 use Rattle.plan.specs.declared.Op.{Op}
-use Rattle.plan.specs.declared.Op.the-variants.{Take, Sum, Diff, Scale, Limit, Wind}
+use Rattle.plan.specs.declared.Op.the-variants.{Take, Sum, Diff, Scale, Limit, Wind, Cam}
 use Rattle.plan.specs.declared.Task.{Task}
 use Rattle.plan.specs.declared.Plan.{Plan}
 use Rattle.plan.specs.Known.{unusedTask, taskAt, votePlace, votedIn}
@@ -127,6 +127,7 @@ op-fits (Diff a b) vs g = refl
 op-fits (Scale a factor) vs g = g .1 .1 .1 .1 .1 .0 .1
 op-fits (Limit a low high) vs g = and-both (g .1 .1 .1 .1 .1 .0 .1) (g .1 .1 .1 .1 .1 .1 .0 .1)
 op-fits (Wind a law) vs g = and-both (g .1 .1 .1 .1 .1 .0 .1 .1 .0 .1) (g .1 .1 .1 .1 .1 .0 .1 .1 .1 .0 .1)
+op-fits (Cam a) vs g = refl
 
 -- how long an array in a struct is
 long : {X Y : Type 0} (f : X → Y) (xs : List X) (n : ℕ) → length (map f xs) ≡ n → length xs ≡ n

@@ -7,7 +7,7 @@ use lib.Ieee.{binary64, fits, le}
 use Rattle.array.specs.Index.{allBelow, allIn}
 use Rattle.pattern.specs.Constant.{finite, finiteUnsigned}
 use Rattle.plan.specs.declared.Op.{Op}
-use Rattle.plan.specs.declared.Op.the-variants.{Take, Sum, Diff, Scale, Limit, Wind}
+use Rattle.plan.specs.declared.Op.the-variants.{Take, Sum, Diff, Scale, Limit, Wind, Cam}
 use Rattle.plan.specs.declared.Task.{Task}
 use Rattle.plan.specs.declared.Plan.{Plan}
 use Rattle.plan.specs.Limits.{leastNodes, mostNodes, mostFrames, mostCells, mostSensors, mostActuators, mostTasks}
@@ -34,6 +34,7 @@ constantsOk sensors (Diff a b) = true
 constantsOk sensors (Scale a factor) = finite factor
 constantsOk sensors (Limit a low high) = finite low && finite high && le low high
 constantsOk sensors (Wind a law) = finite (law .rate) && finiteUnsigned (law .cap)
+constantsOk sensors (Cam a) = true
 
 -- the cells that it reads are in range
 unfoldable pub opOk : ℕ → ℕ → ℕ → Op → Bool
@@ -50,6 +51,7 @@ isZeroTake (Diff a b) = false
 isZeroTake (Scale a factor) = false
 isZeroTake (Limit a low high) = false
 isZeroTake (Wind a law) = false
+isZeroTake (Cam a) = false
 
 unfoldable pub isUnused : Task → Bool
 isUnused t = eqb (t .frame) 0 && eqb (t .target) 0 && isZeroTake (t .op)
@@ -93,6 +95,7 @@ opStorable (Diff a b) = true
 opStorable (Scale a factor) = fits binary64 factor
 opStorable (Limit a low high) = fits binary64 low && fits binary64 high
 opStorable (Wind a law) = fits binary64 (law .rate) && fits binary64 (law .cap)
+opStorable (Cam a) = true
 
 unfoldable pub storable : Plan → Bool
 storable p =

@@ -6,7 +6,7 @@ use lib.ListN.{getD, set, replicate}
 use lib.Dec.{eqb}
 use Rattle.array.specs.Index.{allBelow, allIn}
 use Rattle.plan.specs.declared.Op.{Op}
-use Rattle.plan.specs.declared.Op.the-variants.{Take, Sum, Diff, Scale, Limit, Wind}
+use Rattle.plan.specs.declared.Op.the-variants.{Take, Sum, Diff, Scale, Limit, Wind, Cam}
 use Rattle.plan.specs.declared.Task.{Task}
 use Rattle.plan.specs.declared.Plan.{Plan}
 use Rattle.plan.specs.Limits.{mostCells}
@@ -33,7 +33,7 @@ voteCell e = e % mostCells
 unfoldable pub votedIn : Plan → ℕ → ℕ → Bool
 votedIn p frame cell = getD (p .voted) (votePlace frame cell) false
 
--- the cells that a task reads: "Take reads none; Wind reads its target too"
+-- the cells that a task reads: "Take reads none; Wind reads its target too"; a cam "reads cell a" (request 2026-01)
 unfoldable pub reads : Op → ℕ → List ℕ
 reads (Take s) target = []
 reads (Sum a b) target = a ∷ b ∷ []
@@ -41,6 +41,7 @@ reads (Diff a b) target = a ∷ b ∷ []
 reads (Scale a factor) target = a ∷ []
 reads (Limit a low high) target = a ∷ []
 reads (Wind a law) target = a ∷ target ∷ []
+reads (Cam a) target = a ∷ []
 
 -- "all cells it reads are known"
 unfoldable pub readsKnown : Op → ℕ → List Bool → Bool

@@ -46,6 +46,7 @@ fn op_ok(cells: usize, sensors: usize, target: usize, op: Op) -> bool
         Op::Wind(a, law) => (a < cells)
             & (target < cells)
             & (pattern::is_finite(law.rate) & pattern::is_finite_unsigned(law.cap)),
+        Op::Cam(a) => a < cells,
     }
 }
 
@@ -59,6 +60,7 @@ fn is_zero_take(op: Op) -> bool
         Op::Scale(_, _) => false,
         Op::Limit(_, _, _) => false,
         Op::Wind(_, _) => false,
+        Op::Cam(_) => false,
     }
 }
 

@@ -7,7 +7,7 @@ use pattern::WindLaw;
 pub mod entries;
 pub mod step;
 
-// A task is one of six kinds with the constants of its own kind. The numbers are cells, but for Take's sensor.
+// A task is one of seven kinds with the constants of its own kind. The numbers are cells, but for Take's sensor.
 pub enum Op {
     Take(usize),
     Sum(usize, usize),
@@ -15,6 +15,7 @@ pub enum Op {
     Scale(usize, f64),
     Limit(usize, f64, f64),
     Wind(usize, WindLaw),
+    Cam(usize),
 }
 
 // A task line.

@@ -271,7 +271,7 @@ module _ (ls : List (List ℕ)) (q : Plan) (j : ℕ) (prev : List ℕ) {c t e a 
   unfolding inOrder inRange headerLine taskInOrder taskOf
   after-task k u o r =
       let l : List ℕ = k ∷ f ∷ x ∷ y ∷ b ∷ d ∷ [] in
-      let nc : eqb k cellKind ≡ false = by-kind (λ n. eqb n cellKind ≡ false) refl refl refl refl refl refl k u in
+      let nc : eqb k cellKind ≡ false = by-kind (λ n. eqb n cellKind ≡ false) refl refl refl refl refl refl refl k u in
       let o1 = rw (nc, u) at o in
       let r1 = rw (nc, u) at r in
       let past : q .cells ≤ j = leb-true (q .cells) j (and-left _ _ o1) in

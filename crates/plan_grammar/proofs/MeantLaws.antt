@@ -19,7 +19,7 @@ use Rattle.plan.specs.declared.Plan.{Plan}
 use Rattle.plan.specs.Limits.{mostFrames, mostCells, mostTasks, mostActuators}
 use Rattle.plan.specs.Known.{unusedTask, votePlace}
 use Rattle.plan.specs.Accepted.{headerOk, constantsOk, opOk, taskOk, opStorable, storable, wellFormed, accepted}
-use Rattle.plan_grammar.specs.Line.{lineAt, kindOf, second, third, fifth, isTask, cellKind, takeKind, windKind, voteKind, actuatorKind}
+use Rattle.plan_grammar.specs.Line.{lineAt, kindOf, second, third, fifth, isTask, cellKind, takeKind, camKind, voteKind, actuatorKind}
 use Rattle.plan_grammar.specs.Meant.{zeroPlan, opOf, taskOf, headerWith, initialWith, countWith, tasksWith, votedWith, actuatorsWith, withLine, planTo}
 use Rattle.plan_grammar.specs.Written.{opLine, taskLine}
 use Rattle.plan_grammar.specs.Refused.{taskZeros}
@@ -105,13 +105,13 @@ value-fits x = is-true (fits binary64 (valueOf x)) (ofBits-fits binary64 x)
 
 -- ---- the task of a line
 
--- the six kinds, and what each says
-module _ (X : ℕ → Type 0) (ten : X 10) (eleven : X 11) (twelve : X 12) (thirteen : X 13) (fourteen : X 14) (fifteen : X 15) where
+-- the seven kinds, and what each says
+module _ (X : ℕ → Type 0) (ten : X 10) (eleven : X 11) (twelve : X 12) (thirteen : X 13) (fourteen : X 14) (fifteen : X 15) (sixteen : X 16) where
   pub by-kind : (k : ℕ) → isTask k ≡ true → X k
   unfolding isTask
   by-kind k t =
-      let low : takeKind ≤ k = leb-true takeKind k (and-left (leb takeKind k) (leb k windKind) t) in
-      let high : k ≤ windKind = leb-true k windKind (and-right (leb takeKind k) (leb k windKind) t) in
+      let low : takeKind ≤ k = leb-true takeKind k (and-left (leb takeKind k) (leb k camKind) t) in
+      let high : k ≤ camKind = leb-true k camKind (and-right (leb takeKind k) (leb k camKind) t) in
       split (eqb k 10) (λ e. rw (eqb-true k 10 e) ten)
       (λ e. let n10 = eqb-false k 10 e in
       split (eqb k 11) (λ e. rw (eqb-true k 11 e) eleven)
@@ -122,7 +122,9 @@ module _ (X : ℕ → Type 0) (ten : X 10) (eleven : X 11) (twelve : X 12) (thir
       (λ e. let n13 = eqb-false k 13 e in
       split (eqb k 14) (λ e. rw (eqb-true k 14 e) fourteen)
       (λ e. let n14 = eqb-false k 14 e in
-      let e15 : k ≡ 15 = omega arith in rw e15 fifteen)))))
+      split (eqb k 15) (λ e. rw (eqb-true k 15 e) fifteen)
+      (λ e. let n15 = eqb-false k 15 e in
+      let e16 : k ≡ 16 = omega arith in rw e16 sixteen))))))
 
 -- a task line in range is written as it was read
 module _ (frames cells sensors f c a b d : ℕ) (lb : b < 2 ^ 64) (ld : d < 2 ^ 64) where
@@ -172,8 +174,15 @@ module _ (frames cells sensors f c a b d : ℕ) (lb : b < 2 ^ 64) (ld : d < 2 ^ 
       let fd : finite (valueOf d) ≡ true = finite-unsigned (valueOf d) (and-right (finite (valueOf b)) (finiteUnsigned (valueOf d)) r) in
       rw (pattern-of-value b lb fb, pattern-of-value d ld fd)
 
+  back-cam : Back 16
+  unfolding taskOf opOf taskZeros taskLine opLine
+  back-cam o z =
+      let eb : b ≡ 0 = eqb-true b 0 (and-left (eqb b 0) (eqb d 0) z) in
+      let ed : d ≡ 0 = eqb-true d 0 (and-right (eqb b 0) (eqb d 0) z) in
+      rw (eb, ed)
+
   pub task-line : (k : ℕ) → isTask k ≡ true → Back k
-  task-line = by-kind Back back-take back-sum back-diff back-scale back-limit back-wind
+  task-line = by-kind Back back-take back-sum back-diff back-scale back-limit back-wind back-cam
 
 -- its constants are of binary64
 module _ (f c a b d : ℕ) where
@@ -183,7 +192,7 @@ module _ (f c a b d : ℕ) where
   pub op-storable : (k : ℕ) → isTask k ≡ true → opStorable (opOf (k ∷ f ∷ c ∷ a ∷ b ∷ d ∷ [])) ≡ true
   unfolding opStorable opOf
   op-storable k t =
-      by-kind Kept refl refl refl (value-fits b) (and-both (value-fits b) (value-fits d)) (and-both (value-fits b) (value-fits d)) k t
+      by-kind Kept refl refl refl (value-fits b) (and-both (value-fits b) (value-fits d)) (and-both (value-fits b) (value-fits d)) refl k t
 
 -- ---- a record with one entry more
 
@@ -241,7 +250,7 @@ module _ (p : Plan) (f c a b d : ℕ) where
   unfolding withLine headerWith initialWith countWith tasksWith votedWith actuatorsWith isTask
   with-task k t =
       by-kind (λ n. withLine (n ∷ f ∷ c ∷ a ∷ b ∷ d ∷ []) p ≡ withTask (taskOf (n ∷ f ∷ c ∷ a ∷ b ∷ d ∷ [])) p)
-      refl refl refl refl refl refl k t
+      refl refl refl refl refl refl refl k t
 
   pub with-vote : withLine (20 ∷ f ∷ c ∷ a ∷ b ∷ d ∷ []) p ≡ withVote (votePlace f c) p
   unfolding withLine headerWith initialWith countWith tasksWith votedWith actuatorsWith isTask

@@ -20,7 +20,7 @@ use Rattle.column.specs.Row.{Room}
 use Rattle.pattern.specs.Pattern.{valueOf, patternOf}
 use Rattle.pattern.proofs.PatternLaws.{pattern-bound}
 use Rattle.plan.specs.declared.Op.{Op}
-use Rattle.plan.specs.declared.Op.the-variants.{Take, Sum, Diff, Scale, Limit, Wind}
+use Rattle.plan.specs.declared.Op.the-variants.{Take, Sum, Diff, Scale, Limit, Wind, Cam}
 use Rattle.plan.specs.declared.Task.{Task}
 use Rattle.plan.specs.declared.Plan.{Plan}
 use Rattle.plan.specs.Limits.{mostFrames, mostCells, mostSensors, mostTasks}
@@ -86,6 +86,8 @@ op-line f g (Wind a law) e =
       task = rw (value-of-pattern (law .rate) (and-left _ _ e), value-of-pattern (law .cap) (and-right (fits binary64 (law .rate)) _ e));
       stored = λ q. with-task q f g a (patternOf (law .rate)) (patternOf (law .cap)) 15 refl;
     }
+op-line f g (Cam a) e =
+    record { kind = refl; no-cell = refl; zeros = refl; frame = refl; task = refl; stored = λ q. with-task q f g a 0 0 16 refl }
 
 pub taskLine-is : (t : Task) → opStorable (t .op) ≡ true → TaskLine (taskLine t) t
 unfolding taskLine
@@ -134,6 +136,7 @@ op-room cells sensors f g (Limit a low high) c n lf lg e w =
     omega (arith, ltb-true a cells (search joint), fits-small low (and-left _ _ w), fits-small high (and-right (fits binary64 low) _ w))
 op-room cells sensors f g (Wind a law) c n lf lg e w =
     omega (arith, ltb-true a cells (search joint), fits-small (law .rate) (and-left _ _ w), fits-small (law .cap) (and-right (fits binary64 (law .rate)) _ w))
+op-room cells sensors f g (Cam a) c n lf lg e w = omega (arith, ltb-true a cells (search joint))
 
 module _ (p : Plan) (w : Shape p) where
   task-room : (k : ℕ) → k < p .«task_count» → Room widths (taskLine (taskAt p k))

@@ -73,12 +73,16 @@ limitKind = 14
 abbrev pub windKind : ℕ
 windKind = 15
 
+-- request 2026-01
+abbrev pub camKind : ℕ
+camKind = 16
+
 abbrev pub voteKind : ℕ
 voteKind = 20
 
 abbrev pub actuatorKind : ℕ
 actuatorKind = 30
 
--- "tasks (kinds 10–15)"
+-- "Document 01's six task kinds, 10–15, become seven, 10–16"
 unfoldable pub isTask : ℕ → Bool
-isTask kind = leb takeKind kind && leb kind windKind
+isTask kind = leb takeKind kind && leb kind camKind

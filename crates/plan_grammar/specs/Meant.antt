@@ -6,12 +6,12 @@ use lib.Dec.{eqb}
 use lib.ListN.{set, replicate}
 use Rattle.pattern.specs.Pattern.{valueOf}
 use Rattle.plan.specs.declared.Op.{Op}
-use Rattle.plan.specs.declared.Op.the-variants.{Take, Sum, Diff, Scale, Limit, Wind}
+use Rattle.plan.specs.declared.Op.the-variants.{Take, Sum, Diff, Scale, Limit, Wind, Cam}
 use Rattle.plan.specs.declared.Task.{Task}
 use Rattle.plan.specs.declared.Plan.{Plan}
 use Rattle.plan.specs.Limits.{mostFrames, mostCells, mostTasks, mostActuators}
 use Rattle.plan.specs.Known.{unusedTask, votePlace}
-use Rattle.plan_grammar.specs.Line.{lineCount, lineAt, kindOf, second, third, fourth, fifth, sixth, isTask, headerKind, cellKind, sumKind, diffKind, scaleKind, limitKind, windKind, voteKind, actuatorKind}
+use Rattle.plan_grammar.specs.Line.{lineCount, lineAt, kindOf, second, third, fourth, fifth, sixth, isTask, headerKind, cellKind, sumKind, diffKind, scaleKind, limitKind, windKind, camKind, voteKind, actuatorKind}
 
 -- "a new plan .. beside a refusal is all zero"
 abbrev pub zeroPlan : Plan
@@ -37,7 +37,8 @@ opOf l =
     (cond (eqb (kindOf l) scaleKind) (Scale (fourth l) (valueOf (fifth l)))
     (cond (eqb (kindOf l) limitKind) (Limit (fourth l) (valueOf (fifth l)) (valueOf (sixth l)))
     (cond (eqb (kindOf l) windKind) (Wind (fourth l) (record { rate = valueOf (fifth l); cap = valueOf (sixth l) }))
-    (Take (fourth l))))))
+    (cond (eqb (kindOf l) camKind) (Cam (fourth l))
+    (Take (fourth l)))))))
 
 unfoldable pub taskOf : List ℕ → Task
 taskOf l = record { frame = second l; target = third l; op = opOf l }

@@ -11,7 +11,7 @@ use Rattle.answer.specs.declared.Answer.the-variants.{TextLength, Malformed, He
 use Rattle.plan.specs.Limits.{mostTasks}
 use Rattle.plan.specs.Known.{period}
 use Rattle.plan.specs.Accepted.{headerOk, taskOk}
-use Rattle.plan_grammar.specs.Line.{lineSize, mostTextLines, lineCount, numbersAt, lineAt, kindOf, second, third, fourth, fifth, sixth, isTask, headerKind, cellKind, takeKind, sumKind, diffKind, scaleKind, voteKind, actuatorKind}
+use Rattle.plan_grammar.specs.Line.{lineSize, mostTextLines, lineCount, numbersAt, lineAt, kindOf, second, third, fourth, fifth, sixth, isTask, headerKind, cellKind, takeKind, sumKind, diffKind, scaleKind, camKind, voteKind, actuatorKind}
 use Rattle.plan_grammar.specs.Meant.{taskOf, planOf}
 
 -- "1: length 0, above 35,169, or no multiple of 57"
@@ -74,12 +74,12 @@ inOrder h j prev l =
 
 -- ---- 5: "any other index out of range, an unused column not 0, constants against the rules"
 
--- the kinds of task whose 5th, and whose 6th column document 01's table shows as 0
+-- the kinds of task whose 5th, and whose 6th column document 01's table shows as 0; of a cam "the columns of Sum but 0 as fifth"
 abbrev pub fifthUnused : ℕ → Bool
-fifthUnused kind = eqb kind takeKind
+fifthUnused kind = eqb kind takeKind || eqb kind camKind
 
 abbrev pub sixthUnused : ℕ → Bool
-sixthUnused kind = eqb kind takeKind || eqb kind sumKind || eqb kind diffKind || eqb kind scaleKind
+sixthUnused kind = eqb kind takeKind || eqb kind sumKind || eqb kind diffKind || eqb kind scaleKind || eqb kind camKind
 
 unfoldable pub taskZeros : List ℕ → Bool
 taskZeros l = (not (fifthUnused (kindOf l)) || eqb (fifth l) 0) && (not (sixthUnused (kindOf l)) || eqb (sixth l) 0)

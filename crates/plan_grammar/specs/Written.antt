@@ -7,12 +7,12 @@ use Rattle.array.specs.Index.{joined}
 use Rattle.pattern.specs.Pattern.{patternOf}
 use Rattle.column.specs.Row.{row}
 use Rattle.plan.specs.declared.Op.{Op}
-use Rattle.plan.specs.declared.Op.the-variants.{Take, Sum, Diff, Scale, Limit, Wind}
+use Rattle.plan.specs.declared.Op.the-variants.{Take, Sum, Diff, Scale, Limit, Wind, Cam}
 use Rattle.plan.specs.declared.Task.{Task}
 use Rattle.plan.specs.declared.Plan.{Plan}
 use Rattle.plan.specs.Limits.{mostFrames, mostCells}
 use Rattle.plan.specs.Known.{taskAt, voteFrame, voteCell}
-use Rattle.plan_grammar.specs.Line.{widths, headerKind, cellKind, takeKind, sumKind, diffKind, scaleKind, limitKind, windKind, voteKind, actuatorKind}
+use Rattle.plan_grammar.specs.Line.{widths, headerKind, cellKind, takeKind, sumKind, diffKind, scaleKind, limitKind, windKind, camKind, voteKind, actuatorKind}
 
 -- the lines by their numbers, after document 01's table
 unfoldable pub headerLine : Plan → List ℕ
@@ -28,6 +28,7 @@ opLine frame target (Diff a b) = diffKind ∷ frame ∷ target ∷ a ∷ b ∷ 0
 opLine frame target (Scale a factor) = scaleKind ∷ frame ∷ target ∷ a ∷ patternOf factor ∷ 0 ∷ []
 opLine frame target (Limit a low high) = limitKind ∷ frame ∷ target ∷ a ∷ patternOf low ∷ patternOf high ∷ []
 opLine frame target (Wind a law) = windKind ∷ frame ∷ target ∷ a ∷ patternOf (law .rate) ∷ patternOf (law .cap) ∷ []
+opLine frame target (Cam a) = camKind ∷ frame ∷ target ∷ a ∷ 0 ∷ 0 ∷ []
 
 unfoldable pub taskLine : Task → List ℕ
 taskLine t = opLine (t .frame) (t .target) (t .op)

@@ -42,6 +42,8 @@ impl Line {
 
     pub const WIND: usize = 15;
 
+    pub const CAM: usize = 16;
+
     pub const VOTE: usize = 20;
 
     pub const ACTUATOR: usize = 30;
@@ -112,7 +114,7 @@ pub fn read_line(line: &[u8]) -> LineRead
 pub fn is_task(kind: usize) -> bool
     ensures { λ r. ⌜ r ≡ isTask kind ⌝ }
 {
-    (Line::TAKE <= kind) & (kind <= Line::WIND)
+    (Line::TAKE <= kind) & (kind <= Line::CAM)
 }
 
 pub fn is_header(l: Line) -> bool
@@ -254,6 +256,9 @@ fn op_of(l: Line) -> Op
         let cap = pattern::value(l.sixth);
         return Op::Wind(a, WindLaw { rate, cap });
     }
+    if kind == Line::CAM {
+        return Op::Cam(a);
+    }
     Op::Take(a)
 }
 
@@ -273,8 +278,9 @@ pub fn task_zeros(l: Line) -> bool
 {
     let kind = l.kind;
     let take = kind == Line::TAKE;
-    let short = take | (kind == Line::SUM) | (kind == Line::DIFF) | (kind == Line::SCALE);
-    (!take | (l.fifth == 0)) & (!short | (l.sixth == 0))
+    let cam = kind == Line::CAM;
+    let short = take | (kind == Line::SUM) | (kind == Line::DIFF) | (kind == Line::SCALE) | cam;
+    (!(take | cam) | (l.fifth == 0)) & (!short | (l.sixth == 0))
 }
 
 pub fn in_range(h: Line, l: Line) -> bool

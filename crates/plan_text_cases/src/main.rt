@@ -64,7 +64,7 @@ fn show_all(texts: &[u8]) {
 }
 
 fn main() {
-    let mut buffer = [0u8; 131072];
+    let mut buffer = [0u8; 262144];
     let file = os::open_read(b"texts");
     if file < 0 {
         return;

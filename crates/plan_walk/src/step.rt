@@ -55,6 +55,7 @@ fn read_word(op: Op, target: usize, begun: u16, words: &[u16]) -> u16
         Op::Scale(a, _) => word(words, a) & begun,
         Op::Limit(a, _, _) => word(words, a) & begun,
         Op::Wind(a, _) => word(words, a) & (word(words, target) & begun),
+        Op::Cam(a) => word(words, a) & begun,
     }
 }
 

@@ -15,7 +15,7 @@ use Rattle.array.proofs.TestLaws.{split, clash, and-left, and-right, and-both}
 use Rattle.array.proofs.IndexLaws.{allBelow-at, allBelow-all}
 use Rattle.array.proofs.PlacesLaws.{Holds, holds-left, holds-right, holds-within, holds-entry, joined-holds, fill-in, from-held, from-add}
 use Rattle.plan.specs.declared.Op.{Op}
-use Rattle.plan.specs.declared.Op.the-variants.{Take, Sum, Diff, Scale, Limit, Wind}
+use Rattle.plan.specs.declared.Op.the-variants.{Take, Sum, Diff, Scale, Limit, Wind, Cam}
 use Rattle.plan.specs.declared.Plan.{Plan}
 use Rattle.plan.specs.Limits.{mostFrames, mostCells, mostSensors, mostTasks, mostActuators}
 use Rattle.plan.specs.Known.{unusedTask, taskAt, votePlace, voteFrame, voteCell, votedIn, reads}
@@ -176,6 +176,7 @@ op-small cells sensors f g (Limit a low high) c n lf lg e w =
     omega (arith, ltb-true a cells (search joint), fits-small low (and-left _ _ w), fits-small high (and-right (fits binary64 low) _ w))
 op-small cells sensors f g (Wind a law) c n lf lg e w =
     omega (arith, ltb-true a cells (search joint), fits-small (law .rate) (and-left _ _ w), fits-small (law .cap) (and-right (fits binary64 (law .rate)) _ w))
+op-small cells sensors f g (Cam a) c n lf lg e w = omega (arith, ltb-true a cells (search joint))
 
 unused-small : Small (taskLine unusedTask)
 unfolding taskLine opLine

@@ -13,7 +13,7 @@ use Rattle.array.proofs.PlacedLaws.{placed-next, part-back}
 use Rattle.array.proofs.PlacesLaws.{joined-none, joined-more, joined-length, joined-holds, holds-entry, from-length, from-at, from-held}
 use Rattle.column.proofs.BufferLaws.{Laid, laid-none}
 use Rattle.plan.specs.declared.Op.{Op}
-use Rattle.plan.specs.declared.Op.the-variants.{Take, Sum, Diff, Scale, Limit, Wind}
+use Rattle.plan.specs.declared.Op.the-variants.{Take, Sum, Diff, Scale, Limit, Wind, Cam}
 use Rattle.plan.specs.declared.Task.{Task}
 use Rattle.plan.specs.declared.Plan.{Plan}
 use Rattle.plan.specs.Limits.{mostFrames, mostCells, mostTasks, mostActuators}
@@ -63,6 +63,7 @@ op-size f c (Diff a b) = refl
 op-size f c (Scale a factor) = refl
 op-size f c (Limit a low high) = refl
 op-size f c (Wind a law) = refl
+op-size f c (Cam a) = refl
 
 pub task-size : (t : Task) → length (taskLine t) ≡ taskSize
 unfolding taskLine

@@ -1,6 +1,6 @@
 -- Laws for reading a plan from words: entries stored one by one, four votes at a time, a task of its numbers, the plan.
 use mathlib.Core.Path.{_≡_, refl, sym, ap, _∙_}
-use mathlib.Core.Bool.{Bool, true, false, not, cond, _&&_, _||_, and-false}
+use mathlib.Core.Bool.{Bool, true, false, not, cond, _&&_, and-false}
 use mathlib.Core.List.{List, [], _∷_}
 use mathlib.Core.Option.{Option, none, some}
 use Prim.Native.Nat.{ℕ, _+_, _*_, _/_, _%_, _^_, _≤_, _<_}
@@ -9,20 +9,20 @@ use lib.Dec.{eqb}
 use lib.Ieee.{Float}
 use lib.ListN.{length, getD, set, replicate, length-replicate}
 use lib.Seq.{ext-getD}
-use borrow.Author.Tests.{eqb-true, eq-eqb, ne-eqb, not-true, not-false}
+use borrow.Author.Tests.{eq-eqb, ne-eqb, not-true}
 use Rattle.array.specs.Index.{allBelow, fill, from}
 use Rattle.array.specs.Bit.{bit}
-use Rattle.array.proofs.TestLaws.{split, clash, and-both, and-false-left, and-false-right}
+use Rattle.array.proofs.TestLaws.{split, and-both, and-false-left, and-false-right}
 use Rattle.array.proofs.IndexLaws.{allBelow-at, allBelow-fails}
 use Rattle.array.proofs.PlacesLaws.{fill-length, fill-in, fill-more, from-length, from-at}
 use Rattle.pattern.specs.Pattern.{valueOf}
 use Rattle.plan.specs.declared.Op.{Op}
-use Rattle.plan.specs.declared.Op.the-variants.{Take, Sum, Diff, Scale, Limit, Wind}
+use Rattle.plan.specs.declared.Op.the-variants.{Take, Sum, Diff, Scale, Limit, Wind, Cam}
 use Rattle.plan.specs.declared.Task.{Task}
 use Rattle.plan.specs.declared.Plan.{Plan}
 use Rattle.plan.specs.Limits.{mostFrames, mostCells, mostTasks, mostActuators}
 use Rattle.plan.specs.Known.{unusedTask, votePlace, voteFrame, voteCell}
-use Rattle.plan_grammar.specs.Line.{kindOf, isTask, takeKind, sumKind, diffKind, scaleKind, limitKind, windKind}
+use Rattle.plan_grammar.specs.Line.{kindOf, isTask, takeKind, sumKind, diffKind, scaleKind, limitKind, windKind, camKind}
 use Rattle.plan_grammar.specs.Meant.{zeroPlan, opOf, taskOf}
 use Rattle.plan_grammar.specs.Refused.{taskZeros}
 use Rattle.plan_grammar.proofs.MeantLaws.{by-kind}
@@ -33,14 +33,6 @@ use Rattle.plan_words.specs.declared.step.TaskRead.the-variants.{Whole, 
 use Rattle.plan_words.specs.Words.{initialAt, actuatorsAt, planSize, taskIn, voteIn, planIn, taskWords, voteWords, wordsOk, planOfWords}
 use Rattle.plan_words.specs.Code.{taskRead}
 use Rattle.plan_words.proofs.BitsLaws.{bit-of-four}
-
-or-false-left : (a b : Bool) → (a || b) ≡ false → a ≡ false
-or-false-left true b e = e
-or-false-left false b e = refl
-
-or-false-right : (a b : Bool) → (a || b) ≡ false → b ≡ false
-or-false-right true b e = absurd (clash refl e)
-or-false-right false b e = e
 
 -- ---- entries stored one by one
 
@@ -174,12 +166,13 @@ module _ (f c a b d : ℕ) where
     unfolding isTask taskZeros taskOf opOf
     said-scale e z p h = h ∙ rw (e, z, p)
 
-  pub said-take : (k : ℕ) {r : Option Task} → d ≡ 0 → (not (eqb k takeKind) || not (eqb b 0)) ≡ false → r ≡ taskWith (Take a) → r ≡ taskSaid k
-  unfolding isTask taskZeros taskOf opOf
-  said-take k z e h =
-      let kind : k ≡ takeKind = eqb-true k takeKind (not-false (eqb k takeKind) (or-false-left (not (eqb k takeKind)) (not (eqb b 0)) e)) in
-      let none : b ≡ 0 = eqb-true b 0 (not-false (eqb b 0) (or-false-right (not (eqb k takeKind)) (not (eqb b 0)) e)) in
-      h ∙ rw (kind, z, none)
+    pub said-cam : k ≡ camKind → d ≡ 0 → b ≡ 0 → r ≡ taskWith (Cam a) → r ≡ taskSaid k
+    unfolding isTask taskZeros taskOf opOf
+    said-cam e z y h = h ∙ rw (e, z, y)
+
+    pub said-take : k ≡ takeKind → d ≡ 0 → b ≡ 0 → r ≡ taskWith (Take a) → r ≡ taskSaid k
+    unfolding isTask taskZeros taskOf opOf
+    said-take e z y h = h ∙ rw (e, z, y)
 
   abbrev NoSixth : ℕ → Type 0
   NoSixth k = (k ≡ limitKind → ⊥) → (k ≡ windKind → ⊥) → none ≡ taskSaid k
@@ -190,22 +183,37 @@ module _ (f c a b d : ℕ) where
       let off = ne-eqb d 0 z in
       split (isTask k)
       (by-kind NoSixth
-      (λ p q. simp (off, and-false)) (λ p q. rw off) (λ p q. rw off) (λ p q. rw off) (λ p q. absurd (p refl)) (λ p q. absurd (q refl)) k)
+      (λ p q. simp (off, and-false)) (λ p q. rw off) (λ p q. rw off) (λ p q. rw off) (λ p q. absurd (p refl)) (λ p q. absurd (q refl)) (λ p q. simp (off, and-false)) k)
       (λ t p q. rw t)
 
-  abbrev NoTake : ℕ → Type 0
-  NoTake k =
-      (k ≡ limitKind → ⊥) → (k ≡ windKind → ⊥) → (k ≡ sumKind → ⊥) → (k ≡ diffKind → ⊥) → (k ≡ scaleKind → ⊥)
-      → (not (eqb k takeKind) || not (eqb b 0)) ≡ true → none ≡ taskSaid k
+  -- none of the kinds that have a fifth number
+  abbrev Bare : ℕ → Type 0 → Type 0
+  Bare k X = (k ≡ limitKind → ⊥) → (k ≡ windKind → ⊥) → (k ≡ sumKind → ⊥) → (k ≡ diffKind → ⊥) → (k ≡ scaleKind → ⊥) → X
 
-  pub said-no-take : (k : ℕ) → NoTake k
+  abbrev NoFifth : ℕ → Type 0
+  NoFifth k = Bare k (none ≡ taskSaid k)
+
+  pub said-no-fifth : (k : ℕ) → (b ≡ 0 → ⊥) → NoFifth k
   unfolding isTask taskZeros
-  said-no-take k =
+  said-no-fifth k z =
+      let off = ne-eqb b 0 z in
       split (isTask k)
-      (by-kind NoTake
-      (λ l w s d c e. rw (not-true (eqb b 0) e)) (λ l w s d c e. absurd (s refl)) (λ l w s d c e. absurd (d refl)) (λ l w s d c e. absurd (c refl))
-      (λ l w s d c e. absurd (l refl)) (λ l w s d c e. absurd (w refl)) k)
-      (λ t l w s d c e. rw t)
+      (by-kind NoFifth
+      (λ l w s d c. rw off) (λ l w s d c. absurd (s refl)) (λ l w s d c. absurd (d refl)) (λ l w s d c. absurd (c refl))
+      (λ l w s d c. absurd (l refl)) (λ l w s d c. absurd (w refl)) (λ l w s d c. rw off) k)
+      (λ t l w s d c. rw t)
+
+  abbrev NoKind : ℕ → Type 0
+  NoKind k = Bare k ((k ≡ camKind → ⊥) → (k ≡ takeKind → ⊥) → none ≡ taskSaid k)
+
+  pub said-no-kind : (k : ℕ) → NoKind k
+  unfolding isTask taskZeros
+  said-no-kind k =
+      split (isTask k)
+      (by-kind NoKind
+      (λ l w s d c m t. absurd (t refl)) (λ l w s d c m t. absurd (s refl)) (λ l w s d c m t. absurd (d refl)) (λ l w s d c m t. absurd (c refl))
+      (λ l w s d c m t. absurd (l refl)) (λ l w s d c m t. absurd (w refl)) (λ l w s d c m t. absurd (m refl)) k)
+      (λ t l w s d c m n. rw t)
 
 some-of : (b : Bool) (t x : Task) → some t ≡ cond b (some x) none → (b ≡ true) × (t ≡ x)
 some-of true t x e = (refl, cc)

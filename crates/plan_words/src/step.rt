@@ -99,7 +99,13 @@ fn task_of(l: Line) -> TaskRead
     if kind == Line::SCALE {
         return whole(l, Op::Scale(a, pattern::value(l.fifth)));
     }
-    if (kind != Line::TAKE) | (l.fifth != 0) {
+    if l.fifth != 0 {
+        return TaskRead::Malformed;
+    }
+    if kind == Line::CAM {
+        return whole(l, Op::Cam(a));
+    }
+    if kind != Line::TAKE {
         return TaskRead::Malformed;
     }
     whole(l, Op::Take(a))

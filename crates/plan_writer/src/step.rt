@@ -91,6 +91,7 @@ fn op_line(frame: usize, target: usize, op: Op) -> Line
             pattern::pattern(law.rate),
             pattern::pattern(law.cap),
         ),
+        Op::Cam(a) => numbers(Line::CAM, frame, target, a, 0, 0),
     }
 }
 

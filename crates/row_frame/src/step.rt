@@ -10,6 +10,7 @@ ghost use Rattle.array.specs.Word.{be};
 ghost use Rattle.plan.specs.Limits.{mostFrames, mostCells};
 ghost use Rattle.plan.specs.Accepted.{accepted};
 ghost use Rattle.plan.specs.Sizes.{sizesOf};
+ghost use Rattle.cam.specs.Cam.{camTable};
 ghost use Rattle.ballot.specs.Plane.{plane as planeOf};
 ghost use Rattle.ballot.specs.Code.{Told};
 ghost use Rattle.memory.specs.Size.{patternSize, cellAt};
@@ -135,6 +136,7 @@ pub fn frame(
     s: Sizes,
     first: usize,
     sensors: &[u64],
+    cams: &[u32; cam::SIZE],
     mask: u64,
     faults: &[u8],
     counters: &mut [u16],
@@ -142,7 +144,7 @@ pub fn frame(
     good: &mut [u16; System::NODES],
     place: &mut [u64],
 )
-    requires { ⌜ (accepted plan ≡ true) × (s ≡ sizesOf plan) × (first ≤ 1) × (length (now sensors) ≡ plan .sensors) × Parts s mask (length (now faults)) × (length (now counters) ≡ rowCount) × (length (now cells) ≡ wordCount) × (length (now place) ≡ plan .actuators) ⌝ }
+    requires { ⌜ (accepted plan ≡ true) × (s ≡ sizesOf plan) × (first ≤ 1) × (length (now sensors) ≡ plan .sensors) × Parts s mask (length (now faults)) × (length (now counters) ≡ rowCount) × (length (now cells) ≡ wordCount) × (length (now place) ≡ plan .actuators) × (now cams ≡ camTable) ⌝ }
     ensures { λ _. ⌜ ((sys : System) → Rows sys (now (counters .entry)) (now (cells .entry)) (now (good .entry)) → Rows (systemAfter plan sys (now (sensors .entry)) mask (now (faults .entry))) (now (counters .exit)) (now (cells .exit)) (now (good .exit)) × (now (place .exit) ≡ placeAfter plan sys (now (sensors .entry)) mask (now (faults .entry)) (now (place .entry)))) × (memoryIn (now (counters .exit)) (now (cells .exit)) 0 ≡ cond (eqb first 0) (computed plan (now (sensors .entry)) (memoryIn (now (counters .entry)) (now (cells .entry)) 0)) (memoryIn (now (counters .entry)) (now (cells .entry)) 0)) ⌝ }
 {
     let rows = plan.nodes + 1;
@@ -164,7 +166,7 @@ pub fn frame(
             }
             if frame == g {
                 let t = plan.tasks[k];
-                task::step::run_task_in(&mut cells[at..at + Plan::CELLS], t, sensors);
+                task::step::run_task_in(&mut cells[at..at + Plan::CELLS], t, sensors, cams);
             } else {
                 skipped = k;
             }

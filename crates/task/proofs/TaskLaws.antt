@@ -1,5 +1,5 @@
 -- Laws of tasks: a task reads only the cells that it names and changes only its target; every result is a pattern;
--- Limit and Wind leave their targets within their bounds.
+-- Limit, Wind and Cam leave their targets within their bounds.
 use mathlib.Core.Path.{_≡_, refl, sym, _∙_}
 use mathlib.Core.Bool.{Bool, true, false}
 use mathlib.Core.List.{List, List·Memᴰ, List·Memᴰ·head, List·Memᴰ·tail}
@@ -15,8 +15,10 @@ use Rattle.array.proofs.TestLaws.{split, clash, and-left, and-right}
 use Rattle.pattern.specs.Constant.{finite, finiteUnsigned, Within}
 use Rattle.pattern.proofs.PatternLaws.{sum-bound, diff-bound, scale-bound, limit-bound, wind-bound}
 use Rattle.pattern.proofs.BoundLaws.{limit-within, wind-within}
+use Rattle.cam.specs.Cam.{floatZero}
+use Rattle.cam.proofs.CamLaws.{floatMost, cam-bound, cam-within}
 use Rattle.plan.specs.declared.Op.{Op}
-use Rattle.plan.specs.declared.Op.the-variants.{Take, Sum, Diff, Scale, Limit, Wind}
+use Rattle.plan.specs.declared.Op.the-variants.{Take, Sum, Diff, Scale, Limit, Wind, Cam}
 use Rattle.plan.specs.declared.Task.{Task}
 use Rattle.plan.specs.declared.Plan.{Plan}
 use Rattle.plan.specs.Known.{taskAt, reads, readsKnown, knowTask, knowTasks}
@@ -64,6 +66,7 @@ module _ (a b : List ℕ) where
   opValue-reads (Scale x factor) t sensors h = rw (h x (List·Memᴰ·head refl))
   opValue-reads (Limit x low high) t sensors h = rw (h x (List·Memᴰ·head refl))
   opValue-reads (Wind x law) t sensors h = rw (h x (List·Memᴰ·head refl), h t (List·Memᴰ·tail (List·Memᴰ·head refl)))
+  opValue-reads (Cam x) t sensors h = rw (h x (List·Memᴰ·head refl))
 
 -- where two lists agree on the known cells, they do after it
 
@@ -157,6 +160,7 @@ opValue-bound (Scale a factor) t sensors cells f bs bc = scale-bound factor _
 opValue-bound (Limit a low high) t sensors cells f bs bc =
     limit-bound _ low high (bc a) (holds (fits binary64 low) (search joint)) (holds (fits binary64 high) (search joint))
 opValue-bound (Wind a law) t sensors cells f bs bc = wind-bound _ _ law (holds (fits binary64 (law .cap)) (search joint))
+opValue-bound (Cam a) t sensors cells f bs bc = cam-bound _
 
 set-bounded : (l : List ℕ) (t v : ℕ) → Bounded l → v < 2 ^ 64 → Bounded (set l t v)
 set-bounded l t v b h x =
@@ -180,9 +184,9 @@ runTask-bounded g sensors t cells f bs bc =
     (λ e. rw e (set-bounded cells (t .target) _ bc (opValue-bound (t .op) (t .target) sensors cells f bs bc)))
     (λ e. rw e bc)
 
--- ---- Limit and Wind results lie within their bounds
+-- ---- Limit and Wind results lie within their bounds, a cam's from 0 to 65,536
 
--- the pattern r is within the bounds that a Limit or Wind sets; other tasks set none
+-- the pattern r is within the bounds that a Limit, Wind or Cam sets; other tasks set none
 abbrev pub InBounds : Op → ℕ → Type 0
 InBounds (Take s) r = Unit
 InBounds (Sum a b) r = Unit
@@ -190,6 +194,7 @@ InBounds (Diff a b) r = Unit
 InBounds (Scale a factor) r = Unit
 InBounds (Limit a low high) r = Within low high r
 InBounds (Wind a law) r = Within (neg (law .cap)) (law .cap) r
+InBounds (Cam a) r = Within floatZero floatMost r
 
 pub opValue-within :
     (n m : ℕ) (o : Op) (t : ℕ) (sensors cells : List ℕ) → opOk n m t o ≡ true → opStorable o ≡ true → InBounds o (opValue o t sensors cells)
@@ -207,6 +212,7 @@ opValue-within n m (Limit a low high) t sensors cells k f =
     (holds (le low high) (search joint))
 opValue-within n m (Wind a law) t sensors cells k f =
     wind-within _ _ law (holds (fits binary64 (law .cap)) (search joint)) (holds (finiteUnsigned (law .cap)) (search joint))
+opValue-within n m (Cam a) t sensors cells k f = cam-within _
 
 -- ---- the tasks of a plan
 

@@ -26,7 +26,7 @@ frame-requires c κs =
     let q = c .before .before .before .before .before .before .before .before .before .before .before .pre in
     let zeros : List ℕ = replicate mostActuators 0 in
     let l : c .before .before .before .before .before .before .before .before .before .before .before .args .s .actuators ≤ mostActuators = sizes-small _ (q .0) _ (q .1) .0 .actuators in
-    (q .0, q .1, search needs, q .2, q .3, q .4, q .5, front-length zeros refl l ∙ ap (λ (t : Sizes). t .actuators) (q .1))
+    (q .0, q .1, search needs, q .2, q .3, q .4, q .5, front-length zeros refl l ∙ ap (λ (t : Sizes). t .actuators) (q .1), q .7)
 
 equal-requires : tie.Need-equal-requires
 equal-requires c κs =

@@ -44,6 +44,7 @@ finish-line-requires c κs =
       q .6,
       q .7,
       q .8,
+      q .9,
     )
 
 returns-2 : tie.Need-returns-2

@@ -28,10 +28,15 @@ returns-6 : tie.Need-returns-6
 unfolding isZeroTake
 returns-6 c = rw (c .enum-told5 .given .1)
 
+returns-7 : tie.Need-returns-7
+unfolding isZeroTake
+returns-7 c = rw (c .enum-told6 .given .1)
+
 pub is-zero-take-spec : {M : Type 1} → statement M
 is-zero-take-spec =
     tie.close
     (tie.spec
+    (λ c. search needs)
     (λ c. search needs)
     (λ c. search needs)
     (λ c. search needs)
@@ -43,4 +48,5 @@ is-zero-take-spec =
     returns-3
     returns-4
     returns-5
-    returns-6)
+    returns-6
+    returns-7)

@@ -32,6 +32,10 @@ returns-6 : tie.Need-returns-6
 unfolding opOk constantsOk reads
 returns-6 c = rw (c .before .before .before .op6 .given .1, c .before .is-finite4 .ensures, c .is-finite-unsigned .ensures, two-in)
 
+returns-7 : tie.Need-returns-7
+unfolding opOk constantsOk reads
+returns-7 c = rw (c .before .op7 .given .1, and-true, one-in)
+
 pub op-ok-spec : {M : Type 1} → statement M
 op-ok-spec =
     tie.close
@@ -47,9 +51,11 @@ op-ok-spec =
     (λ c. search needs)
     (λ c κs. search needs)
     (λ c κs. search needs)
+    (λ c. search needs)
     returns
     returns-2
     returns-3
     returns-4
     returns-5
-    returns-6)
+    returns-6
+    returns-7)

@@ -28,6 +28,10 @@ returns-6 : tie.Need-returns-6
 unfolding readWord allWords reads
 returns-6 c = rw (c .before .before .before .op5 .given .1, c .before .word7 .ensures, c .word8 .ensures)
 
+returns-7 : tie.Need-returns-7
+unfolding readWord allWords reads
+returns-7 c = rw (c .before .before .op6 .given .1, c .word9 .ensures)
+
 pub read-word-spec : {M : Type 1} → statement M
 read-word-spec =
     tie.close
@@ -46,9 +50,12 @@ read-word-spec =
     (λ c. search needs)
     (λ c κs. search needs)
     (λ c κs. search needs)
+    (λ c. search needs)
+    (λ c κs. search needs)
     returns
     returns-2
     returns-3
     returns-4
     returns-5
-    returns-6)
+    returns-6
+    returns-7)

@@ -1,5 +1,5 @@
 -- `plan_words::step::task_of` meets its contract: one return for each kind, and one for each test that no task passes.
-use Rattle.plan_words.proofs.WordsReadLaws.{said-limit, said-wind, said-sum, said-diff, said-scale, said-take, said-no-sixth, said-no-take}
+use Rattle.plan_words.proofs.WordsReadLaws.{said-limit, said-wind, said-sum, said-diff, said-scale, said-cam, said-take, said-no-sixth, said-no-fifth, said-no-kind}
 use borrow.Author.Needs.{needs}
 use Rattle.plan_words.proofs.step.task_of.Statement.{statement}
 use Rattle.plan_words.proofs.step.task_of.Tie as tie
@@ -23,10 +23,16 @@ returns-6 : tie.Need-returns-6
 returns-6 c = said-scale _ _ _ _ _ (c .before .before .if6 .taken) (c .before .before .before .before .before .if3 .left) (c .before .value5 .ensures) (c .whole5 .ensures)
 
 returns-7 : tie.Need-returns-7
-returns-7 c = said-no-take _ _ _ _ _ _ (c .before .before .before .before .before .before .before .before .if1 .left) (c .before .before .before .before .before .before .before .if2 .left) (c .before .before .before .before .if4 .left) (c .before .before .before .if5 .left) (c .before .before .if6 .left) (c .if7 .taken)
+returns-7 c = said-no-fifth _ _ _ _ _ _ (c .if7 .taken) (c .before .before .before .before .before .before .before .before .if1 .left) (c .before .before .before .before .before .before .before .if2 .left) (c .before .before .before .before .if4 .left) (c .before .before .before .if5 .left) (c .before .before .if6 .left)
 
 returns-8 : tie.Need-returns-8
-returns-8 c = said-take _ _ _ _ _ _ (c .before .before .before .before .before .before .if3 .left) (c .before .if7 .left) (c .whole6 .ensures)
+returns-8 c = said-cam _ _ _ _ _ (c .before .if8 .taken) (c .before .before .before .before .before .before .before .if3 .left) (c .before .before .if7 .left) (c .whole6 .ensures)
+
+returns-9 : tie.Need-returns-9
+returns-9 c = said-no-kind _ _ _ _ _ _ (c .before .before .before .before .before .before .before .before .before .before .if1 .left) (c .before .before .before .before .before .before .before .before .before .if2 .left) (c .before .before .before .before .before .before .if4 .left) (c .before .before .before .before .before .if5 .left) (c .before .before .before .before .if6 .left) (c .before .if8 .left) (c .if9 .taken)
+
+returns-10 : tie.Need-returns-10
+returns-10 c = said-take _ _ _ _ _ (c .before .if9 .left) (c .before .before .before .before .before .before .before .before .if3 .left) (c .before .before .before .if7 .left) (c .whole7 .ensures)
 
 pub task-of-spec : {M : Type 1} → statement M
 task-of-spec =
@@ -50,4 +56,7 @@ task-of-spec =
     returns-6
     returns-7
     (λ c κs. search needs)
-    returns-8)
+    returns-8
+    returns-9
+    (λ c κs. search needs)
+    returns-10)

@@ -28,6 +28,10 @@ returns-6 : tie.Need-returns-6
 unfolding opLine
 returns-6 c = rw (c .before .before .before .before .op6 .given .1, ← c .before .before .pattern4 .ensures, ← c .before .pattern5 .ensures) (c .numbers6 .ensures)
 
+returns-7 : tie.Need-returns-7
+unfolding opLine
+returns-7 c = rw (c .before .before .op7 .given .1) (c .numbers7 .ensures)
+
 pub op-line-spec : {M : Type 1} → statement M
 op-line-spec =
     tie.close
@@ -49,9 +53,12 @@ op-line-spec =
     (λ c κs. search needs)
     (λ c κs. search needs)
     (λ c κs. search needs)
+    (λ c. search needs)
+    (λ c κs. search needs)
     returns
     returns-2
     returns-3
     returns-4
     returns-5
-    returns-6)
+    returns-6
+    returns-7)

@@ -10,7 +10,7 @@ use borrow.Author.Needs.{needs}
 use Rattle.array.proofs.PlacedLaws.{part-length}
 use Rattle.plan.specs.Known.{taskAt}
 use Rattle.plan.specs.Limits.{mostFrames, mostCells, mostTasks}
-use Rattle.plan.proofs.AcceptedLaws.{shape-of-accepted}
+use Rattle.plan.proofs.AcceptedLaws.{shape-of-accepted, op-in}
 use Rattle.task.specs.Task.{opValue, runTasks}
 use Rattle.task.proofs.SkipLaws.{Skips, skips-none, skips-again, skips-few, skips-earlier}
 use Rattle.memory.proofs.StepLaws.{tasks-none, tasks-hit, tasks-miss, tasks-others, tasks-later, tasks-end}
@@ -22,21 +22,21 @@ use Rattle.row_frame.proofs.step.frame.Statement.{statement}
 use Rattle.row_frame.proofs.step.frame.Tie as tie
 
 abbrev Inv-loop2 : tie.InvT-loop2
-Inv-loop2 s first sensors mask faults counters cells₀ good place plan rows frames count last skipped₀ r g at k₀ cells skipped k =
+Inv-loop2 s first sensors cams mask faults counters cells₀ good place plan rows frames count last skipped₀ r g at k₀ cells skipped k =
     (k ≤ count) × (count ≤ mostTasks) × (skipped ≤ count) × Skips plan g skipped × (rowOf cells r ≡ runTasks plan g sensors k (rowOf cells₀ r))
     × ((q : ℕ) → (q ≡ r → ⊥) → rowOf cells q ≡ rowOf cells₀ q) × (length cells ≡ wordCount)
     × (frames ≤ mostFrames) × (g < frames) × ((g + 1) % frames < frames) × (r < rowCount) × (at ≡ mostCells * r)
 
 abbrev μ-loop2 : tie.MeasureT-loop2
-μ-loop2 s first sensors mask faults counters cells₀ good place plan rows frames count last skipped₀ r g at k₀ cells skipped k = count - k
+μ-loop2 s first sensors cams mask faults counters cells₀ good place plan rows frames count last skipped₀ r g at k₀ cells skipped k = count - k
 
 abbrev Inv-loop : tie.InvT-loop
-Inv-loop s first sensors mask faults counters₀ cells₀ good place plan rows frames count last₀ skipped₀ r₀ counters cells last skipped r =
+Inv-loop s first sensors cams mask faults counters₀ cells₀ good place plan rows frames count last₀ skipped₀ r₀ counters cells last skipped r =
     (r ≤ rows) × (rows ≤ rowCount) × (skipped ≤ count) × Skips plan last skipped × (length counters ≡ rowCount) × (length cells ≡ wordCount)
     × Through r (ran plan sensors first) counters₀ cells₀ counters cells × (first ≤ r)
 
 abbrev μ-loop : tie.MeasureT-loop
-μ-loop s first sensors mask faults counters₀ cells₀ good place plan rows frames count last₀ skipped₀ r₀ counters cells last skipped r = rows - r
+μ-loop s first sensors cams mask faults counters₀ cells₀ good place plan rows frames count last₀ skipped₀ r₀ counters cells last skipped r = rows - r
 
 add-rows : tie.Need-add-rows Inv-loop2 μ-loop2 Inv-loop μ-loop
 add-rows c = omega (arith, shape-of-accepted _ (c .before .before .before .before .before .pre .0) .nodes-high)
@@ -69,11 +69,19 @@ loop2-holds c =
 
 run-task-in-requires : tie.Need-run-task-in-requires Inv-loop2 μ-loop2 Inv-loop μ-loop
 run-task-in-requires c κs =
-    let s = shape-of-accepted (c .before .before .before .before .before .before .before .before .before .before .before .before .before .before .before .args .t1) (c .before .before .before .before .before .before .before .before .before .before .before .before .before .before .before .pre .0) in
-    let i = c .before .before .before .before .before .loop2 .inv in
+    let a = c .before .before .before .before .before .before .before .before .before .before .before .before .before .before .before .args in
+    let q = c .before .before .before .before .before .before .before .before .before .before .before .before .before .before .before .pre in
+    let s = shape-of-accepted (a .t1) (q .0) in
+    let l = c .before .before .before .before .before .loop2 in
+    let i = l .inv in
+    let here = c .before .before .before .before .loop2-test .taken in
     let r : ℕ = c .before .before .before .before .before .before .before .before .before .loop .r in
-    let z : mostCells * r + mostCells - mostCells * r ≡ mostCells = omega arith in
-    omega (arith, s .target (c .before .before .before .before .before .loop2 .k) (c .before .before .before .before .loop2-test .taken), s .cells-le, part-length (c .before .before .before .before .before .loop2 .cells) (mostCells * r) (mostCells * r + mostCells - mostCells * r) mostCells z (omega (arith, i .6, i .10)))
+    let z : mostCells * r + mostCells - mostCells * r ≡ mostCells = omega arith in (
+      part-length (l .cells) (mostCells * r) (mostCells * r + mostCells - mostCells * r) mostCells z (omega (arith, i .6, i .10)),
+      omega (arith, s .target (l .k) here, s .cells-le),
+      op-in (a .t1) s (l .k) here (q .3),
+      q .8,
+    )
 
 loop2-again : tie.Need-loop2-again Inv-loop2 μ-loop2 Inv-loop μ-loop
 loop2-again c =

@@ -1,8 +1,39 @@
 -- `task::step::op_value` meets its contract: one arm for each kind of task.
 use borrow.Author.Needs.{needs}
+use Rattle.plan.proofs.AcceptedLaws.{take-in, sum-in, diff-in, scale-in, limit-in, wind-in, cam-in}
 use Rattle.task.specs.Task.{opValue}
 use Rattle.task.proofs.step.op_value.Statement.{statement}
 use Rattle.task.proofs.step.op_value.Tie as tie
+
+entry-requires : tie.Need-entry-requires
+entry-requires c κs = take-in _ _ _ (c .before .before .before .before .before .pre .1) (c .before .op .given .1)
+
+entry-requires-2 : tie.Need-entry-requires-2
+entry-requires-2 c κs = sum-in _ _ _ (c .before .before .before .before .before .pre .1) (c .before .before .before .before .before .pre .0) (c .before .op2 .given .1) .0
+
+entry-requires-3 : tie.Need-entry-requires-3
+entry-requires-3 c κs = sum-in _ _ _ (c .before .before .before .before .before .before .pre .1) (c .before .before .before .before .before .before .pre .0) (c .before .before .op2 .given .1) .1
+
+entry-requires-4 : tie.Need-entry-requires-4
+entry-requires-4 c κs = diff-in _ _ _ (c .before .before .before .before .before .pre .1) (c .before .before .before .before .before .pre .0) (c .before .op3 .given .1) .0
+
+entry-requires-5 : tie.Need-entry-requires-5
+entry-requires-5 c κs = diff-in _ _ _ (c .before .before .before .before .before .before .pre .1) (c .before .before .before .before .before .before .pre .0) (c .before .before .op3 .given .1) .1
+
+entry-requires-6 : tie.Need-entry-requires-6
+entry-requires-6 c κs = scale-in _ _ _ (c .before .before .before .before .before .pre .1) (c .before .before .before .before .before .pre .0) (c .before .op4 .given .1)
+
+entry-requires-7 : tie.Need-entry-requires-7
+entry-requires-7 c κs = limit-in _ _ _ (c .before .before .before .before .before .pre .1) (c .before .before .before .before .before .pre .0) (c .before .op5 .given .1)
+
+entry-requires-8 : tie.Need-entry-requires-8
+entry-requires-8 c κs = wind-in _ _ _ (c .before .before .before .before .before .pre .1) (c .before .before .before .before .before .pre .0) (c .before .op6 .given .1) .1
+
+entry-requires-9 : tie.Need-entry-requires-9
+entry-requires-9 c κs = wind-in _ _ _ (c .before .before .before .before .before .before .pre .1) (c .before .before .before .before .before .before .pre .0) (c .before .before .op6 .given .1) .0
+
+entry-requires-10 : tie.Need-entry-requires-10
+entry-requires-10 c κs = cam-in _ _ _ (c .before .before .before .before .before .pre .1) (c .before .before .before .before .before .pre .0) (c .before .op7 .given .1)
 
 returns : tie.Need-returns
 unfolding opValue
@@ -28,33 +59,41 @@ returns-6 : tie.Need-returns-6
 unfolding opValue
 returns-6 c = rw (c .before .before .before .before .op6 .given .1, c .wind .ensures, c .before .before .entry8 .ensures, c .before .entry9 .ensures)
 
+returns-7 : tie.Need-returns-7
+unfolding opValue
+returns-7 c = rw (c .before .before .before .op7 .given .1, c .cam .ensures, c .before .entry10 .ensures)
+
 pub op-value-spec : {M : Type 1} → statement M
 op-value-spec =
     tie.close
     (tie.spec
     (λ c. search needs)
+    entry-requires
+    (λ c. search needs)
+    entry-requires-2
+    entry-requires-3
     (λ c κs. search needs)
     (λ c. search needs)
-    (λ c κs. search needs)
-    (λ c κs. search needs)
-    (λ c κs. search needs)
-    (λ c. search needs)
-    (λ c κs. search needs)
-    (λ c κs. search needs)
+    entry-requires-4
+    entry-requires-5
     (λ c κs. search needs)
     (λ c. search needs)
-    (λ c κs. search needs)
-    (λ c κs. search needs)
-    (λ c. search needs)
-    (λ c κs. search needs)
+    entry-requires-6
     (λ c κs. search needs)
     (λ c. search needs)
+    entry-requires-7
     (λ c κs. search needs)
+    (λ c. search needs)
+    entry-requires-8
+    entry-requires-9
     (λ c κs. search needs)
+    (λ c. search needs)
+    entry-requires-10
     (λ c κs. search needs)
     returns
     returns-2
     returns-3
     returns-4
     returns-5
-    returns-6)
+    returns-6
+    returns-7)
