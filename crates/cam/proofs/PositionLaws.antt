@@ -1,11 +1,11 @@
 -- Laws of a cam's position: its cases by the code's two tests, that a whole part can be taken there, and that it is at most 512.
 use mathlib.Core.Path.{_≡_, refl, subst}
-use mathlib.Core.Bool.{Bool, true, false, _||_, _&&_}
-use Prim.Native.Nat.{ℕ, _+_, _*_, _/_, _^_, _-_, _≤_, _<_, min, zero-le}
+use mathlib.Core.Bool.{true, false, _||_, _&&_}
+use Prim.Native.Nat.{ℕ, _+_, _*_, _/_, _^_, _-_, _≤_, zero-le}
 use native.Mathlib.Omega.{arith}
 use native.Mathlib.Nat.{div-le-of-le-mul, le-refl}
 use lib.Dec.{T, ltb, eqb, lt→ltb}
-use lib.IntN.{ℤ, pos}
+use lib.IntN.{pos}
 use lib.Ieee.{Float, nan, inf, fin, isNan, lt, eq, le, up, down, toUnsigned}
 use lib.Ieee.Fits.{down-pos}
 use borrow.Author.Tests.{ltb-false, le-ltb, eqb-true}

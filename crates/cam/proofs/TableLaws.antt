@@ -1,15 +1,15 @@
 -- Laws of the cam's table: the rule's numbers, and that entry i of the table is the rule at i.
 use mathlib.Core.Path.{_≡_, refl, sym, _∙_}
-use mathlib.Core.Bool.{Bool, true}
+use mathlib.Core.Bool.{true}
 use mathlib.Core.List.{List}
-use Prim.Native.Nat.{ℕ, _*_, _^_, _≤_, _<_}
+use Prim.Native.Nat.{ℕ, _*_, _^_, _≤_}
 use native.Mathlib.Omega.{arith}
-use native.Mathlib.Nat.{pow-suc, mul-le-mul-left, mul-assoc, mul-comm}
+use native.Mathlib.Nat.{pow-suc, mul-le-mul-left}
 use lib.Dec.{eqb, leb}
 use lib.ListN.{length, getD, replicate, length-replicate}
 use lib.Seq.{ext-getD}
 use borrow.Author.Tests.{eqb-true, leb-true}
-use Rattle.array.specs.Index.{allBelow, fill}
+use Rattle.array.specs.Index.{allBelow}
 use Rattle.array.proofs.IndexLaws.{allBelow-at}
 use Rattle.array.proofs.PlacesLaws.{fill-length, fill-in}
 use Rattle.array.proofs.TableLaws.{everyFrom, every-at}

@@ -1,7 +1,6 @@
 -- The rule's products at a position from 0 to 512: squares, cubes and how large they are.
-use mathlib.Core.Path.{_≡_, ap, _∙_}
+use mathlib.Core.Path.{_≡_, _∙_}
 use Prim.Native.Nat.{ℕ, _*_, _^_, _≤_}
-use native.Mathlib.Omega.{arith}
 use native.Mathlib.Nat.{pow-zero, pow-suc, one-mul, mul-le-mul, mul-le-mul-left}
 
 pub square-is : (i : ℕ) → i * i ≡ i ^ 2

@@ -1,18 +1,16 @@
 -- What the tests `wellFormed` and `accepted` say of a record, as facts.
 use mathlib.Core.Path.{_≡_, refl, ap}
 use mathlib.Core.Bool.{Bool, true, false, _&&_, _||_}
-use mathlib.Core.List.{List}
+use mathlib.Core.List.{List, [], _∷_}
 use Prim.Native.Nat.{ℕ, zero, suc, _+_, _-_, _*_, _^_, _≤_, _<_}
 use native.Mathlib.Omega.{arith}
 use native.Mathlib.Nat.{mul-le-mul}
 use lib.Dec.{eqb, ltb, lit<}
 use lib.ListN.{length, getD, List·getD-eq-default}
 use borrow.Author.Tests.{ltb-true, ltb-false, leb-true, eqb-true, eqb-false, lt-ltb, le-ltb, le-leb, eq-eqb, ne-eqb, not-true, not-false}
-use lib.Ieee.{Float}
 use Rattle.array.specs.Index.{allBelow, allIn}
 use Rattle.array.proofs.TestLaws.{split, clash, and-left, and-right, and-both}
 use Rattle.array.proofs.IndexLaws.{allBelow-at, allBelow-all, allIn-at, allIn-all}
-use Rattle.pattern.specs.declared.WindLaw.{WindLaw}
 use Rattle.plan.specs.declared.Op.{Op}
 use Rattle.plan.specs.declared.Op.the-variants.{Take, Sum, Diff, Scale, Limit, Wind, Cam}
 use Rattle.plan.specs.declared.Task.{Task}
@@ -258,36 +256,20 @@ opOk-wider n k m t o w h = and-both (allIn-wider n k (reads o t) w (and-left _ _
 pub op-in : (p : Plan) (s : Shape p) (k : ℕ) {n : ℕ} → k < p .«task_count» → n ≡ p .sensors → opOk mostCells n (taskAt p k .target) (taskAt p k .op) ≡ true
 op-in p s k l e = rw e (opOk-wider (p .cells) mostCells (p .sensors) (taskAt p k .target) (taskAt p k .op) (s .cells-le) (s .op k l))
 
-module _ (n m t : ℕ) {o : Op} (h : opOk n m t o ≡ true) where
+module _ (n m t : ℕ) (o : Op) (h : opOk n m t o ≡ true) where
   pub take-in : {s : ℕ} → o ≡ Take s → s < m
   unfolding opOk constantsOk
   take-in e = let k = rw e at h in search said
 
-  -- of a list with n entries
+  -- the cells that it reads, of a list with n entries
   module _ {l : ℕ} (w : l ≡ n) where
-    pub sum-in : {a b : ℕ} → o ≡ Sum a b → (a < l) × (b < l)
-    unfolding opOk reads allIn
-    sum-in e = let k = rw e at h in rw w (search said, search said)
+    pub cell-in : {a : ℕ} → reads o t ≡ a ∷ [] → a < l
+    unfolding opOk allIn
+    cell-in e = let k = rw e at h in rw w (search said)
 
-    pub diff-in : {a b : ℕ} → o ≡ Diff a b → (a < l) × (b < l)
-    unfolding opOk reads allIn
-    diff-in e = let k = rw e at h in rw w (search said, search said)
-
-    pub scale-in : {a : ℕ} {factor : Float} → o ≡ Scale a factor → a < l
-    unfolding opOk reads allIn
-    scale-in e = let k = rw e at h in rw w (search said)
-
-    pub limit-in : {a : ℕ} {low high : Float} → o ≡ Limit a low high → a < l
-    unfolding opOk reads allIn
-    limit-in e = let k = rw e at h in rw w (search said)
-
-    pub wind-in : {a : ℕ} {law : WindLaw} → o ≡ Wind a law → (a < l) × (t < l)
-    unfolding opOk reads allIn
-    wind-in e = let k = rw e at h in rw w (search said, search said)
-
-    pub cam-in : {a : ℕ} → o ≡ Cam a → a < l
-    unfolding opOk reads allIn
-    cam-in e = let k = rw e at h in rw w (search said)
+    pub cells-in : {a b : ℕ} → reads o t ≡ a ∷ b ∷ [] → (a < l) × (b < l)
+    unfolding opOk allIn
+    cells-in e = let k = rw e at h in rw w (search said, search said)
 
 -- ---- an accepted record
 

@@ -1,39 +1,69 @@
 -- `task::step::op_value` meets its contract: one arm for each kind of task.
+use mathlib.Core.Path.{ap}
 use borrow.Author.Needs.{needs}
-use Rattle.plan.proofs.AcceptedLaws.{take-in, sum-in, diff-in, scale-in, limit-in, wind-in, cam-in}
+use Rattle.plan.specs.declared.Op.{Op}
+use Rattle.plan.specs.Known.{reads}
+use Rattle.plan.proofs.AcceptedLaws.{take-in, cell-in, cells-in}
 use Rattle.task.specs.Task.{opValue}
 use Rattle.task.proofs.step.op_value.Statement.{statement}
 use Rattle.task.proofs.step.op_value.Tie as tie
 
 entry-requires : tie.Need-entry-requires
-entry-requires c κs = take-in _ _ _ (c .before .before .before .before .before .pre .1) (c .before .op .given .1)
+entry-requires c κs = take-in _ _ _ _ (c .before .before .before .before .before .pre .1) (c .before .op .given .1)
 
 entry-requires-2 : tie.Need-entry-requires-2
-entry-requires-2 c κs = sum-in _ _ _ (c .before .before .before .before .before .pre .1) (c .before .before .before .before .before .pre .0) (c .before .op2 .given .1) .0
+unfolding reads
+entry-requires-2 c κs =
+    let start = c .before .before .before .before .before in
+    cells-in _ _ _ _ (start .pre .1) (start .pre .0) (ap (λ (o : Op). reads o (start .args .target)) (c .before .op2 .given .1)) .0
 
 entry-requires-3 : tie.Need-entry-requires-3
-entry-requires-3 c κs = sum-in _ _ _ (c .before .before .before .before .before .before .pre .1) (c .before .before .before .before .before .before .pre .0) (c .before .before .op2 .given .1) .1
+unfolding reads
+entry-requires-3 c κs =
+    let start = c .before .before .before .before .before .before in
+    cells-in _ _ _ _ (start .pre .1) (start .pre .0) (ap (λ (o : Op). reads o (start .args .target)) (c .before .before .op2 .given .1)) .1
 
 entry-requires-4 : tie.Need-entry-requires-4
-entry-requires-4 c κs = diff-in _ _ _ (c .before .before .before .before .before .pre .1) (c .before .before .before .before .before .pre .0) (c .before .op3 .given .1) .0
+unfolding reads
+entry-requires-4 c κs =
+    let start = c .before .before .before .before .before in
+    cells-in _ _ _ _ (start .pre .1) (start .pre .0) (ap (λ (o : Op). reads o (start .args .target)) (c .before .op3 .given .1)) .0
 
 entry-requires-5 : tie.Need-entry-requires-5
-entry-requires-5 c κs = diff-in _ _ _ (c .before .before .before .before .before .before .pre .1) (c .before .before .before .before .before .before .pre .0) (c .before .before .op3 .given .1) .1
+unfolding reads
+entry-requires-5 c κs =
+    let start = c .before .before .before .before .before .before in
+    cells-in _ _ _ _ (start .pre .1) (start .pre .0) (ap (λ (o : Op). reads o (start .args .target)) (c .before .before .op3 .given .1)) .1
 
 entry-requires-6 : tie.Need-entry-requires-6
-entry-requires-6 c κs = scale-in _ _ _ (c .before .before .before .before .before .pre .1) (c .before .before .before .before .before .pre .0) (c .before .op4 .given .1)
+unfolding reads
+entry-requires-6 c κs =
+    let start = c .before .before .before .before .before in
+    cell-in _ _ _ _ (start .pre .1) (start .pre .0) (ap (λ (o : Op). reads o (start .args .target)) (c .before .op4 .given .1))
 
 entry-requires-7 : tie.Need-entry-requires-7
-entry-requires-7 c κs = limit-in _ _ _ (c .before .before .before .before .before .pre .1) (c .before .before .before .before .before .pre .0) (c .before .op5 .given .1)
+unfolding reads
+entry-requires-7 c κs =
+    let start = c .before .before .before .before .before in
+    cell-in _ _ _ _ (start .pre .1) (start .pre .0) (ap (λ (o : Op). reads o (start .args .target)) (c .before .op5 .given .1))
 
 entry-requires-8 : tie.Need-entry-requires-8
-entry-requires-8 c κs = wind-in _ _ _ (c .before .before .before .before .before .pre .1) (c .before .before .before .before .before .pre .0) (c .before .op6 .given .1) .1
+unfolding reads
+entry-requires-8 c κs =
+    let start = c .before .before .before .before .before in
+    cells-in _ _ _ _ (start .pre .1) (start .pre .0) (ap (λ (o : Op). reads o (start .args .target)) (c .before .op6 .given .1)) .1
 
 entry-requires-9 : tie.Need-entry-requires-9
-entry-requires-9 c κs = wind-in _ _ _ (c .before .before .before .before .before .before .pre .1) (c .before .before .before .before .before .before .pre .0) (c .before .before .op6 .given .1) .0
+unfolding reads
+entry-requires-9 c κs =
+    let start = c .before .before .before .before .before .before in
+    cells-in _ _ _ _ (start .pre .1) (start .pre .0) (ap (λ (o : Op). reads o (start .args .target)) (c .before .before .op6 .given .1)) .0
 
 entry-requires-10 : tie.Need-entry-requires-10
-entry-requires-10 c κs = cam-in _ _ _ (c .before .before .before .before .before .pre .1) (c .before .before .before .before .before .pre .0) (c .before .op7 .given .1)
+unfolding reads
+entry-requires-10 c κs =
+    let start = c .before .before .before .before .before in
+    cell-in _ _ _ _ (start .pre .1) (start .pre .0) (ap (λ (o : Op). reads o (start .args .target)) (c .before .op7 .given .1))
 
 returns : tie.Need-returns
 unfolding opValue
