@@ -3,7 +3,7 @@
  * Link with libragbasalt.a (`rt staticlib ragbasalt` puts it in target/staticlib). Document 01 says what the calls do; docs/GLOSSARY.md explains its words.
  *
  * Use the structs and the functions on them at the end of this file. The functions of words and lengths before them are what the archive has; they may gain
- * slices, and the version then rises. Compare ragbasalt_version() with RAGBASALT_VERSION once, at the start.
+ * slices or numbers, and the version then rises. Compare ragbasalt_version() with RAGBASALT_VERSION once, at the start.
  *
  * What a caller must keep to:
  * - a pointer is valid for its whole length, counted in elements, aligned for its type, and not null where the length is not 0; a pointer to one number or to a
@@ -13,7 +13,7 @@
  * Everything else is answered: given the stack, no content of a buffer, no length, no mask and no number can make a call trap or run for ever.
  *
  * An answer is one number, number + 256 * line; 0 is done. Beside a refusal all slices stay as they were, those for a new plan, memory or record too, and a
- * number that a call gives (count, period) is 0. Refusals come in the order 7, 9, 8; those of a text, 1 to 6, before 8.
+ * number that a call gives (count, period, agreement) is 0. Refusals come in the order 7, 9, 8; those of a text, 1 to 6, before 8.
  *
  * Stack that a call takes below its caller, measured on this archive as built for x86-64 (docs/PERFORMANCE.md): at most 25,100 bytes for a call on a plan or on one node, 26,000 for
  * ragbasalt_system_equal, 38,900 for a frame of the whole system. Allow for some more.
@@ -28,8 +28,8 @@
 extern "C" {
 #endif
 
-/* It rises where a function gains a slice or a struct a field. */
-#define RAGBASALT_VERSION 1u
+/* It rises where a function gains a slice or a number, or a struct a field. */
+#define RAGBASALT_VERSION 2u
 
 /* The most that a plan can have. */
 #define RAGBASALT_NODES 7u
@@ -134,9 +134,10 @@ uint64_t ragbasalt_node_compute(const uint64_t *plan, size_t plan_length, uint16
 uint64_t ragbasalt_node_message(const uint64_t *plan, size_t plan_length, uint16_t counter, const uint64_t *cells, size_t cells_length, uint8_t *message,
                                 size_t message_length);
 
-/* Votes: takes over what more than half of the mailbox share. `mailbox`: the messages of all nodes, node 0 first, the node's own among them. */
+/* Votes: takes over what more than half of the mailbox share. `mailbox`: the messages of all nodes, node 0 first, the node's own among them. Gives in `agreement`
+ * how many of them hold the voted value, the least over the counter and the voted cells; where no value has more than half, that is 0. */
 uint64_t ragbasalt_node_vote(const uint64_t *plan, size_t plan_length, uint16_t *counter, uint64_t *cells, size_t cells_length, const uint8_t *mailbox,
-                             size_t mailbox_length);
+                             size_t mailbox_length, size_t *agreement);
 
 /* Writes the memory's setpoints. `setpoints`: the plan's actuators. */
 uint64_t ragbasalt_node_setpoints(const uint64_t *plan, size_t plan_length, uint16_t counter, const uint64_t *cells, size_t cells_length, uint64_t *setpoints,
@@ -153,10 +154,11 @@ uint64_t ragbasalt_system_power_on(const uint64_t *plan, size_t plan_length, uin
                                    uint16_t *good, size_t good_length);
 
 /* A frame: writes the record after it and the voted setpoints. Bit i of `mask` set: node i is bad, and its bytes in `faults` are its memory, its messages by
- * receiver and its setpoints. `faults`: ragbasalt_faults_size bytes. What the record holds past the nodes and cells of the plan stays. */
+ * receiver and its setpoints. `faults`: ragbasalt_faults_size bytes. What the record holds past the nodes and cells of the plan stays. Gives in `agreement` the
+ * least agreement of the good nodes' votes, 0 if all nodes are bad. */
 uint64_t ragbasalt_system_frame(const uint64_t *plan, size_t plan_length, uint16_t *counters, size_t counters_length, uint64_t *cells, size_t cells_length,
                                 uint16_t *good, size_t good_length, const uint64_t *sensors, size_t sensors_length, uint64_t mask, const uint8_t *faults,
-                                size_t faults_length, uint64_t *setpoints, size_t setpoints_length);
+                                size_t faults_length, uint64_t *setpoints, size_t setpoints_length, size_t *agreement);
 
 /* Gives in `count` how many nodes work in a frame with this mask; `good` are the counts before it. */
 uint64_t ragbasalt_system_working(const uint64_t *plan, size_t plan_length, const uint16_t *good, size_t good_length, uint64_t mask, size_t *count);
@@ -251,9 +253,9 @@ static inline uint64_t ragbasalt_message(const ragbasalt_plan *plan, const ragba
 }
 
 /* ragbasalt_node_vote: 7, 8 */
-static inline uint64_t ragbasalt_vote(const ragbasalt_plan *plan, ragbasalt_memory *memory, const uint8_t *mailbox, size_t mailbox_length)
+static inline uint64_t ragbasalt_vote(const ragbasalt_plan *plan, ragbasalt_memory *memory, const uint8_t *mailbox, size_t mailbox_length, size_t *agreement)
 {
-    return ragbasalt_node_vote(plan->words, RAGBASALT_PLAN_WORDS, &memory->counter, memory->cells, RAGBASALT_CELLS, mailbox, mailbox_length);
+    return ragbasalt_node_vote(plan->words, RAGBASALT_PLAN_WORDS, &memory->counter, memory->cells, RAGBASALT_CELLS, mailbox, mailbox_length, agreement);
 }
 
 /* ragbasalt_node_setpoints: 7, 8 */
@@ -279,10 +281,10 @@ static inline uint64_t ragbasalt_start(const ragbasalt_plan *plan, ragbasalt_sys
 
 /* ragbasalt_system_frame: 7, 9, 8 */
 static inline uint64_t ragbasalt_frame(const ragbasalt_plan *plan, ragbasalt_system *system, const uint64_t *sensors, size_t sensors_length, uint64_t mask,
-                                       const uint8_t *faults, size_t faults_length, uint64_t *setpoints, size_t setpoints_length)
+                                       const uint8_t *faults, size_t faults_length, uint64_t *setpoints, size_t setpoints_length, size_t *agreement)
 {
     return ragbasalt_system_frame(plan->words, RAGBASALT_PLAN_WORDS, system->counters, RAGBASALT_NODES, system->cells, RAGBASALT_NODES * RAGBASALT_CELLS,
-                                  system->good, RAGBASALT_NODES, sensors, sensors_length, mask, faults, faults_length, setpoints, setpoints_length);
+                                  system->good, RAGBASALT_NODES, sensors, sensors_length, mask, faults, faults_length, setpoints, setpoints_length, agreement);
 }
 
 /* ragbasalt_system_working: 7, 9 */

@@ -1,8 +1,8 @@
 /* A controller board in C: the n nodes of a plan in one process, each with its own memory, exchanging messages through mailboxes.
  *
- * It reads plan.txt and run.txt in the current folder, as the program `run` does, and prints per frame the frame number (width 8) and the setpoints that the
- * plane hands on (20 each): the listing without its two counts, which no single board can know. The plane is the loop `plane` below; on a press the drives do it.
- * A refusal goes to the error output, with exit status 1. */
+ * It reads plan.txt and run.txt in the current folder, as the program `run` does, and prints per frame the frame number (width 8), the setpoints that the
+ * plane hands on (20 each) and the least agreement of the good nodes (4): the listing without its counts of working and equal nodes, which no single board can
+ * know. The plane is the loop `plane` below; on a press the drives do it. A refusal goes to the error output, with exit status 1. */
 #include <inttypes.h>
 #include <stdio.h>
 #include <stdlib.h>
@@ -19,6 +19,7 @@ static struct {
     uint8_t message[RAGBASALT_MESSAGE_BYTES];
     uint8_t mailbox[RAGBASALT_MAILBOX_BYTES];
     uint64_t setpoints[RAGBASALT_ACTUATORS];
+    size_t agreement;
 } board[RAGBASALT_NODES];
 
 static void stop(const char *what, uint64_t number, uint64_t line)
@@ -96,7 +97,7 @@ static void compute(size_t i, const uint64_t *sensors)
 /* What a good node does with its mailbox. */
 static void close_frame(size_t i)
 {
-    done("vote", ragbasalt_vote(&plan, &board[i].memory, board[i].mailbox, nodes * message_bytes));
+    done("vote", ragbasalt_vote(&plan, &board[i].memory, board[i].mailbox, nodes * message_bytes, &board[i].agreement));
     done("setpoints", ragbasalt_setpoints(&plan, &board[i].memory, board[i].setpoints, actuators));
 }
 
@@ -139,6 +140,16 @@ static uint64_t plane(size_t a)
     return value;
 }
 
+/* The least agreement of the good nodes, 0 if all are bad. */
+static size_t agreement(uint64_t mask)
+{
+    size_t least = 0, good = 0, i;
+    for (i = 0; i < nodes; i++)
+        if (!(mask >> i & 1) && (good++ == 0 || board[i].agreement < least))
+            least = board[i].agreement;
+    return least;
+}
+
 int main(void)
 {
     static uint8_t text[RAGBASALT_TEXT_BYTES + 1];
@@ -172,7 +183,7 @@ int main(void)
         printf("%8" PRIu64, frame);
         for (a = 0; a < actuators; a++)
             printf("%20" PRIu64, plane(a));
-        putchar('\n');
+        printf("%4zu\n", agreement(mask));
     }
     return EXIT_SUCCESS;
 }

@@ -67,6 +67,9 @@ pub struct Totals {
     pub inside: u64,
     pub outside: u64,
     pub recovered: u64,
+    /// Frames of boards, and those in which the agreements of good nodes differ.
+    pub boards: u64,
+    pub differing: u64,
 }
 
 /// The report of a difference.
@@ -131,7 +134,7 @@ impl Both<'_> {
 
     pub fn version(&mut self) -> Compared<u64> {
         let got = unsafe { ragbasalt_version() };
-        self.settle("version", "", got, 1, &[])
+        self.settle("version", "", got, 2, &[])
     }
 
     pub fn plan_read(&mut self, text: &[u8], words: &mut Vec<u64>) -> Compared<u64> {
@@ -237,18 +240,22 @@ impl Both<'_> {
         plan: &Words,
         memory: &mut Memory,
         mailbox: &[u8],
+        agreement: &mut usize,
     ) -> Compared<u64> {
         let mut p = self.lend("plan", &plan.words);
         let mut n = self.lend("counter", &[memory.counter]);
         let mut c = self.lend("cells", &memory.cells);
         let mut m = self.lend("mailbox", mailbox);
+        let mut a = self.lend("agreement", &[*agreement]);
         let got = unsafe {
-            ragbasalt_node_vote(p.at(), p.len(), n.at(), c.at(), c.len(), m.at(), m.len())
+            ragbasalt_node_vote(p.at(), p.len(), n.at(), c.at(), c.len(), m.at(), m.len(), a.at())
         };
+        let (counter, cells) = (&mut n.after[0], &mut c.after);
         let plan = plan.plan.as_ref();
-        let expected = calls::node_vote(plan, &mut n.after[0], &mut c.after, mailbox);
-        self.settle("node_vote", "", got, expected, &[&p, &n, &c, &m])?;
+        let expected = calls::node_vote(plan, counter, cells, mailbox, &mut a.after[0]);
+        self.settle("node_vote", "", got, expected, &[&p, &n, &c, &m, &a])?;
         *memory = Memory { counter: n.after[0], cells: c.after };
+        *agreement = a.after[0];
         Ok(expected)
     }
 
@@ -328,6 +335,7 @@ impl Both<'_> {
         Ok(expected)
     }
 
+    #[allow(clippy::too_many_arguments)]
     pub fn system_frame(
         &mut self,
         plan: &Words,
@@ -336,12 +344,14 @@ impl Both<'_> {
         mask: u64,
         faults: &[u8],
         setpoints: &mut Vec<u64>,
+        agreement: &mut usize,
     ) -> Compared<u64> {
         let mut p = self.lend("plan", &plan.words);
         let (mut n, mut c, mut g) = self.lend_rows(rows);
         let mut s = self.lend("sensors", sensors);
         let mut f = self.lend("faults", faults);
         let mut o = self.lend("setpoints", setpoints);
+        let mut a = self.lend("agreement", &[*agreement]);
         let got = unsafe {
             ragbasalt_system_frame(
                 p.at(),
@@ -359,6 +369,7 @@ impl Both<'_> {
                 f.len(),
                 o.at(),
                 o.len(),
+                a.at(),
             )
         };
         let expected = calls::system_frame(
@@ -370,11 +381,13 @@ impl Both<'_> {
             mask,
             faults,
             &mut o.after,
+            &mut a.after[0],
         );
         let mask = format!("mask {mask}");
-        self.settle("system_frame", &mask, got, expected, &[&p, &n, &c, &g, &s, &f, &o])?;
+        self.settle("system_frame", &mask, got, expected, &[&p, &n, &c, &g, &s, &f, &o, &a])?;
         *rows = Rows { counters: n.after, cells: c.after, good: g.after };
         *setpoints = o.after;
+        *agreement = a.after[0];
         Ok(expected)
     }
 

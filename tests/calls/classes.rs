@@ -154,15 +154,15 @@ fn make(both: &mut Both, draw: &Draw, plan: &Words, state: &mut State, call: Cal
         PowerOn => both.node_power_on(plan, memory)?,
         Compute => both.node_compute(plan, memory, &draw.sensors())?,
         Message => both.node_message(plan, memory, &mut draw.message())?,
-        Vote => both.node_vote(plan, memory, &draw.mailbox(memory))?,
+        Vote => both.node_vote(plan, memory, &draw.mailbox(memory), &mut draw.number())?,
         Setpoints => both.node_setpoints(plan, memory, &mut draw.setpoints())?,
         Single => both.single_frame(plan, memory, &draw.sensors(), &mut draw.setpoints())?,
         Start => both.system_power_on(plan, rows)?,
         Frame => {
             let sensors = draw.sensors();
             let faults = draw.faults(rows, &sensors);
-            let place = &mut draw.setpoints();
-            both.system_frame(plan, rows, &sensors, draw.mask(), &faults, place)?
+            let (place, agreement) = (&mut draw.setpoints(), &mut draw.number());
+            both.system_frame(plan, rows, &sensors, draw.mask(), &faults, place, agreement)?
         }
         Working => both.system_working(plan, &rows.good, draw.mask())?,
         Equal => both.system_equal(plan, rows, memory)?,
@@ -250,6 +250,16 @@ impl Premise<'_> {
         let good = |&node: &usize| self.good_for(node, self.plan.period + 1);
         self.held &= 2 * (0..self.plan.nodes).filter(good).count() > self.plan.nodes;
     }
+
+    /// Inside the premise the working nodes send the same, to all.
+    fn agree(&self, agreement: usize) -> Compared<()> {
+        let works = |&node: &usize| self.good_for(node, self.plan.period + 1);
+        let working = (0..self.plan.nodes).filter(works).count();
+        match agreement >= working {
+            true => Ok(()),
+            false => Err(format!("agreement {agreement}, nodes working {working}\n")),
+        }
+    }
 }
 
 /// A system's node as a memory.
@@ -278,7 +288,8 @@ fn list(both: &mut Both, values: &Values, rows: &[Row], masks: Masks) -> Compare
         }
         both.system_working(&words, &rows.good, mask)?;
         let (mut place, mut expected) = (right.setpoints(), right.setpoints());
-        both.system_frame(&words, &mut rows, &sensors, mask, &faults, &mut place)?;
+        let agreement = &mut right.number();
+        both.system_frame(&words, &mut rows, &sensors, mask, &faults, &mut place, agreement)?;
         both.single_frame(&words, &mut single, &sensors, &mut expected)?;
         both.system_equal(&words, &rows, &single)?;
         premise.frame(mask);
@@ -288,6 +299,7 @@ fn list(both: &mut Both, values: &Values, rows: &[Row], masks: Masks) -> Compare
         }
         if premise.held {
             demand_3(both, &premise, &rows, &single, &place, &expected)?;
+            premise.agree(*agreement)?;
         }
     }
     Ok(())
@@ -351,8 +363,9 @@ fn refused_frame(
         7 => given.counters.resize(wrong_length(r, NODES), 0),
         _ => given.good.resize(wrong_length(r, NODES), u16::MAX),
     }
-    let before = given.clone();
-    let answer = both.system_frame(&words, &mut given, &sensors, mask, &faults, &mut place)?;
+    let (before, agreement) = (given.clone(), &mut draw.number());
+    let answer =
+        both.system_frame(&words, &mut given, &sensors, mask, &faults, &mut place, agreement)?;
     // Half of an odd length may be the right one.
     if answer != 0 && before != given {
         return Err(String::from("a refused frame changed the record\n"));
@@ -375,17 +388,20 @@ fn boards(both: &mut Both, values: &Values, rows: &[Row]) -> Compared<()> {
     let masks = r.pick(&[Masks::Premise, Masks::Stretches, Masks::Any]);
     for (mask, sensors) in frames(r, &plan, values, masks).into_iter().take(8) {
         let faults = draw.faults(&rows, &sensors);
-        let mut place = draw.setpoints();
-        both.system_frame(&words, &mut rows, &sensors, mask, &faults, &mut place)?;
+        let (mut place, mut agreement) = (draw.setpoints(), draw.number());
+        both.system_frame(&words, &mut rows, &sensors, mask, &faults, &mut place, &mut agreement)?;
         let frame = Fault { plan: &plan, words: &words, mask, faults: &faults };
-        let planes = frame.by_nodes(both, &mut nodes, &sensors)?;
+        let (planes, agreements) = frame.by_nodes(both, &mut nodes, &sensors)?;
         let memories: Vec<_> = (0..plan.nodes).map(|node| memory_in(&rows, node)).collect();
-        if planes != place || memories != nodes {
+        let least = agreements.iter().min().copied().unwrap_or(0);
+        if planes != place || memories != nodes || least != agreement {
             return Err(format!(
                 "the calls on nodes and the frame differ: {planes:?} and {place:?}, \
-                 {nodes:?} and {memories:?}\n"
+                 {nodes:?} and {memories:?}, {agreements:?} and {agreement}\n"
             ));
         }
+        both.totals.boards += 1;
+        both.totals.differing += u64::from(agreements.iter().max() > agreements.iter().min());
     }
     Ok(())
 }
@@ -408,13 +424,14 @@ impl Fault<'_> {
         &self.faults[node * length..(node + 1) * length]
     }
 
-    /// Compute, message, exchange, vote and setpoints of all nodes; gives what the plane hands on.
+    /// Compute, message, exchange, vote and setpoints of all nodes; gives what the plane hands on
+    /// and the good nodes' agreements.
     fn by_nodes(
         &self,
         both: &mut Both,
         nodes: &mut [Memory],
         sensors: &[u64],
-    ) -> Compared<Vec<u64>> {
+    ) -> Compared<(Vec<u64>, Vec<usize>)> {
         let length = message_length(self.plan);
         let mut messages = vec![vec![0; length]; nodes.len()];
         for (node, memory) in nodes.iter_mut().enumerate().filter(|(node, _)| self.good(*node)) {
@@ -422,6 +439,7 @@ impl Fault<'_> {
             both.node_message(self.words, memory, &mut messages[node])?;
         }
         let mut setpoints = vec![vec![0; self.plan.actuators]; nodes.len()];
+        let mut agreements = Vec::new();
         for (node, memory) in nodes.iter_mut().enumerate() {
             if !self.good(node) {
                 self.load(node, memory, &mut setpoints[node]);
@@ -432,12 +450,15 @@ impl Fault<'_> {
                 false => &self.fault(sender)[(1 + node) * length..(2 + node) * length],
             };
             let mailbox = (0..self.plan.nodes).map(sent).collect::<Vec<_>>().concat();
-            both.node_vote(self.words, memory, &mailbox)?;
+            let mut agreement = 0;
+            both.node_vote(self.words, memory, &mailbox, &mut agreement)?;
+            agreements.push(agreement);
             both.node_setpoints(self.words, memory, &mut setpoints[node])?;
         }
         let values =
             |actuator: usize| setpoints.iter().map(|own| own[actuator]).collect::<Vec<_>>();
-        Ok((0..self.plan.actuators).map(|actuator| plane(&values(actuator))).collect())
+        let planes = (0..self.plan.actuators).map(|actuator| plane(&values(actuator))).collect();
+        Ok((planes, agreements))
     }
 
     /// The memory and the setpoints of a bad node.

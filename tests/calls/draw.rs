@@ -187,6 +187,11 @@ impl Draw<'_> {
         vec![self.r.next() as u8; length]
     }
 
+    /// What stands where a call gives a number.
+    pub fn number(&self) -> usize {
+        self.r.between(0, 9)
+    }
+
     pub fn mask(&self) -> u64 {
         let (r, nodes) = (self.r, self.plan.nodes);
         let all = (1 << nodes) - 1;

@@ -67,13 +67,14 @@ static void node(const ragbasalt_plan *plan, const ragbasalt_memory *before, con
     ragbasalt_memory memory = *before;
     uint8_t mailbox[RAGBASALT_MAILBOX_BYTES];
     uint64_t setpoints[RAGBASALT_ACTUATORS];
-    size_t bytes = ragbasalt_message_length(plan), n = (size_t)plan->words[RAGBASALT_AT_NODES], i;
+    size_t bytes = ragbasalt_message_length(plan), n = (size_t)plan->words[RAGBASALT_AT_NODES], i, agreement = 9;
     size_t s = (size_t)plan->words[RAGBASALT_AT_SENSORS], a = (size_t)plan->words[RAGBASALT_AT_ACTUATORS];
     HOLD(ragbasalt_compute(plan, &memory, sensors, s + 1) == RAGBASALT_WRONG_LENGTH && memory.counter == before->counter);
     HOLD(ragbasalt_compute(plan, &memory, sensors, s) == RAGBASALT_DONE);
     for (i = 0; i < n; i++)
         HOLD(ragbasalt_message(plan, &memory, mailbox + i * bytes, bytes) == RAGBASALT_DONE);
-    HOLD(ragbasalt_vote(plan, &memory, mailbox, n * bytes) == RAGBASALT_DONE);
+    HOLD(ragbasalt_vote(plan, &memory, mailbox, n * bytes - 1, &agreement) == RAGBASALT_WRONG_LENGTH && agreement == 0);
+    HOLD(ragbasalt_vote(plan, &memory, mailbox, n * bytes, &agreement) == RAGBASALT_DONE && agreement == n);
     HOLD(ragbasalt_setpoints(plan, &memory, setpoints, a) == RAGBASALT_DONE && memcmp(setpoints, expected, 8 * a) == 0);
     HOLD(memory.counter == after->counter && memcmp(memory.cells, after->cells, sizeof memory.cells) == 0);
 }
@@ -95,7 +96,7 @@ int main(void)
     static uint8_t text[RAGBASALT_TEXT_BYTES], faults[RAGBASALT_FAULTS_BYTES];
     ragbasalt_memory single, before;
     uint64_t sensors[RAGBASALT_SENSORS + 1], setpoints[RAGBASALT_ACTUATORS], expected[RAGBASALT_ACTUATORS], mask, fill;
-    size_t length, frame, s, a, i, working, equal;
+    size_t length, frame, s, a, i, working, equal, agreement;
     FILE *file = fopen("plan.txt", "rb");
 
     length = file == NULL ? 0 : fread(text, 1, sizeof text, file);
@@ -118,10 +119,12 @@ int main(void)
         sensors[s] = 0;
         memset(faults, (int)fill, sizeof faults);
         HOLD(ragbasalt_working(&plan, &system, 128, &working) == RAGBASALT_MASK_OR_COUNT && working == 0);
-        HOLD(ragbasalt_frame(&plan, &system, sensors, s, 128, faults, 0, setpoints, a) == RAGBASALT_MASK_OR_COUNT);
-        HOLD(ragbasalt_frame(&plan, &system, sensors, s, mask, faults, 0, setpoints, a) == RAGBASALT_WRONG_LENGTH);
+        agreement = 9;
+        HOLD(ragbasalt_frame(&plan, &system, sensors, s, 128, faults, 0, setpoints, a, &agreement) == RAGBASALT_MASK_OR_COUNT && agreement == 0);
+        agreement = 9;
+        HOLD(ragbasalt_frame(&plan, &system, sensors, s, mask, faults, 0, setpoints, a, &agreement) == RAGBASALT_WRONG_LENGTH && agreement == 0);
         HOLD(ragbasalt_working(&plan, &system, mask, &working) == RAGBASALT_DONE);
-        HOLD(ragbasalt_frame(&plan, &system, sensors, s, mask, faults, ragbasalt_faults_length(&plan), setpoints, a) == RAGBASALT_DONE);
+        HOLD(ragbasalt_frame(&plan, &system, sensors, s, mask, faults, ragbasalt_faults_length(&plan), setpoints, a, &agreement) == RAGBASALT_DONE);
         before = single;
         HOLD(ragbasalt_single(&plan, &single, sensors, s, expected, a) == RAGBASALT_DONE);
         HOLD(ragbasalt_equal(&plan, &system, &single, &equal) == RAGBASALT_DONE);
@@ -129,7 +132,7 @@ int main(void)
         printf("%8zu%4zu%4zu", frame, working, equal);
         for (i = 0; i < a; i++)
             printf("%20" PRIu64, setpoints[i]);
-        printf("\n");
+        printf("%4zu\n", agreement);
     }
     return failures > 0;
 }

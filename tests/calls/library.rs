@@ -55,6 +55,7 @@ extern "C" {
         cells_length: usize,
         mailbox: *const u8,
         mailbox_length: usize,
+        agreement: *mut usize,
     ) -> u64;
     pub fn ragbasalt_node_setpoints(
         plan: *const u64,
@@ -102,6 +103,7 @@ extern "C" {
         faults_length: usize,
         setpoints: *mut u64,
         setpoints_length: usize,
+        agreement: *mut usize,
     ) -> u64;
     pub fn ragbasalt_system_working(
         plan: *const u64,

@@ -85,6 +85,8 @@ fn sum(all: &mut Totals, part: &Totals) {
     all.inside += part.inside;
     all.outside += part.outside;
     all.recovered += part.recovered;
+    all.boards += part.boards;
+    all.differing += part.differing;
     for (all, part) in all.answers.iter_mut().flatten().zip(part.answers.iter().flatten()) {
         *all += part;
     }
@@ -93,6 +95,7 @@ fn sum(all: &mut Totals, part: &Totals) {
 /// Prints how often each call gave each answer; false if one of its answers never came up.
 fn print(totals: &Totals) -> bool {
     let mut complete = totals.inside > 0 && totals.outside > 0 && totals.recovered > 0;
+    complete &= totals.differing > 0;
     print!("{:<16}{:>8}", "call", "calls");
     (0..10).for_each(|number| print!("{number:>8}"));
     println!();
@@ -115,6 +118,10 @@ fn print(totals: &Totals) -> bool {
     println!(
         "frames inside the premise {}, outside {}; recovered memories {}",
         totals.inside, totals.outside, totals.recovered
+    );
+    println!(
+        "frames of boards {}, with agreements that differ by node {}",
+        totals.boards, totals.differing
     );
     complete
 }

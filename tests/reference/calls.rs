@@ -1,6 +1,7 @@
 //! The calls that the library exports: what each answers and writes, on numbers and slices.
 //!
-//! What the calls do and when they are refused is document 01's. Plan, memory and system as words
+//! What the calls do and when they are refused is document 01's, and the agreement request
+//! 2026-02's; beside a refusal it is 0, as a count or period is. Plan, memory and system as words
 //! are the library's own layout, which document 01 has not: a memory is a counter and 32 patterns,
 //! a system 7 counters, 7 x 32 patterns and 7 good counts, a plan 446 words.
 
@@ -218,13 +219,21 @@ pub fn node_message(plan: Option<&Plan>, counter: u16, cells: &[u64], message: &
     0
 }
 
-pub fn node_vote(plan: Option<&Plan>, counter: &mut u16, cells: &mut [u64], mailbox: &[u8]) -> u64 {
+/// "A node's vote gives the least such count over its counter and voted cells."
+pub fn node_vote(
+    plan: Option<&Plan>,
+    counter: &mut u16,
+    cells: &mut [u64],
+    mailbox: &[u8],
+    agreement: &mut usize,
+) -> u64 {
+    *agreement = 0;
     let Some(plan) = plan else { return answer(7, 0) };
     if cells.len() != CELLS || mailbox.len() != plan.nodes * message_length(plan) {
         return answer(8, 0);
     }
     let mut memory = memory_of(plan, *counter, cells);
-    memory.vote(plan, mailbox);
+    *agreement = memory.vote(plan, mailbox);
     put_memory(memory, counter, cells);
     0
 }
@@ -303,6 +312,8 @@ fn put_system(system: &System, counters: &mut [u16], cells: &mut [u64], good: &m
     }
 }
 
+/// Beside the record and the setpoints the agreement: "the least over the good nodes, or 0 if all
+/// are bad".
 #[allow(clippy::too_many_arguments)]
 pub fn system_frame(
     plan: Option<&Plan>,
@@ -313,7 +324,9 @@ pub fn system_frame(
     mask: u64,
     faults: &[u8],
     place: &mut [u64],
+    agreement: &mut usize,
 ) -> u64 {
+    *agreement = 0;
     let Some(plan) = plan else { return answer(7, 0) };
     if mask_or_count(plan, mask, good) {
         return answer(9, 0);
@@ -329,7 +342,7 @@ pub fn system_frame(
         system.memories[node] = memory_of(plan, counters[node], &cells[CELLS * node..]);
         system.counts[node] = usize::from(good[node]);
     }
-    system.frame(plan, sensors, mask, faults, place);
+    (_, *agreement) = system.frame(plan, sensors, mask, faults, place);
     put_system(&system, counters, cells, good);
     0
 }

@@ -104,22 +104,27 @@ impl Memory {
 
     /// "Counters are voted first; with no such value, or one >= F, the node's own stays. Let g' be
     /// the frame before the resulting counter. Each cell voted in g' takes its voted value, or
-    /// stays as it is if there is none."
-    pub fn vote(&mut self, plan: &Plan, mailbox: &[u8]) {
+    /// stays as it is if there is none." The agreement: "a node's vote gives the least such count
+    /// over its counter and voted cells". A voted counter >= F has its holders too.
+    pub fn vote(&mut self, plan: &Plan, mailbox: &[u8]) -> usize {
         let mut bins = [&mailbox[..0]; MOST_NODES];
         for (bin, bytes) in bins.iter_mut().zip(mailbox.chunks_exact(message_length(plan))) {
             *bin = bytes;
         }
         let bins = &bins[..plan.nodes];
-        match majority(bins, 0).map(|&bytes| u16::from_be_bytes(bytes)) {
+        let (counter, mut agreement) = majority(bins, 0);
+        match counter.map(|&bytes| u16::from_be_bytes(bytes)) {
             Some(counter) if usize::from(counter) < plan.frames => self.counter = counter,
             _ => {}
         }
         for &cell in &plan.votes[frame_before(plan, self.counter)] {
-            if let Some(&bytes) = majority(bins, 2 + 8 * cell) {
+            let (value, holders) = majority(bins, 2 + 8 * cell);
+            if let Some(&bytes) = value {
                 self.cells[cell] = u64::from_be_bytes(bytes);
             }
+            agreement = agreement.min(holders);
         }
+        agreement
     }
 
     /// Takes a memory "laid out as a message with all cells".
@@ -159,19 +164,20 @@ fn bytes_at<const WIDTH: usize>(bytes: &[u8], at: usize) -> [u8; WIDTH] {
 }
 
 /// "The voted value is the pattern of the first bin that more than half of the bins share": of
-/// the WIDTH bytes that stand at `at` in each bin, compared as bits.
-fn majority<'a, const WIDTH: usize>(bins: &[&'a [u8]], at: usize) -> Option<&'a [u8; WIDTH]> {
+/// the WIDTH bytes that stand at `at` in each bin, compared as bits. "A vote is to give, beside the
+/// value, how many bins hold it (0 where no value has more than half)."
+fn majority<'a, const WIDTH: usize>(
+    bins: &[&'a [u8]],
+    at: usize,
+) -> (Option<&'a [u8; WIDTH]>, usize) {
     let value_of = |bin: &&'a [u8]| -> &'a [u8; WIDTH] { bin[at..].first_chunk().unwrap() };
     for value in bins.iter().map(value_of) {
-        let mut holders = 0;
-        for other in bins.iter().map(value_of) {
-            holders += usize::from(other == value);
-            if 2 * holders > bins.len() {
-                return Some(value);
-            }
+        let holders = bins.iter().map(value_of).filter(|&other| other == value).count();
+        if 2 * holders > bins.len() {
+            return (Some(value), holders);
         }
     }
-    None
+    (None, 0)
 }
 
 /// "The value that most nodes put out; of tied values, the one whose lowest-numbered holder is
@@ -208,7 +214,8 @@ impl System {
     }
 
     /// One frame of the whole system; writes what the plane hands on to `place` and gives the
-    /// number of working nodes. Bit i of the mask set: node i is bad in this frame.
+    /// number of working nodes and the agreement. Bit i of the mask set: node i is bad in this
+    /// frame.
     pub fn frame(
         &mut self,
         plan: &Plan,
@@ -216,11 +223,11 @@ impl System {
         mask: u64,
         faults: &[u8],
         place: &mut [u64],
-    ) -> usize {
+    ) -> (usize, usize) {
         self.compute(plan, sensors, mask);
-        self.vote(plan, mask, faults);
+        let agreement = self.vote(plan, mask, faults);
         self.plane(plan, mask, faults, place);
-        self.count(plan, mask)
+        (self.count(plan, mask), agreement)
     }
 
     fn compute(&mut self, plan: &Plan, sensors: &[u64], mask: u64) {
@@ -235,8 +242,10 @@ impl System {
 
     /// Each good node votes over its n bins; a bad node's memory is the one in the fault bytes:
     /// "for each node its memory after the frame, its n messages by receiver, its A setpoints".
-    fn vote(&mut self, plan: &Plan, mask: u64, faults: &[u8]) {
+    /// Gives "the least over the good nodes, or 0 if all are bad".
+    fn vote(&mut self, plan: &Plan, mask: u64, faults: &[u8]) -> usize {
         let length = message_length(plan);
+        let mut agreements = Vec::new();
         for node in 0..plan.nodes {
             if !good(mask, node) {
                 self.memories[node].load(&faults[node * node_fault_length(plan)..]);
@@ -250,8 +259,9 @@ impl System {
                 };
                 bin.copy_from_slice(&sent[..length]);
             }
-            self.memories[node].vote(plan, &self.mailbox);
+            agreements.push(self.memories[node].vote(plan, &self.mailbox));
         }
+        agreements.into_iter().min().unwrap_or(0)
     }
 
     fn plane(&self, plan: &Plan, mask: u64, faults: &[u8], place: &mut [u64]) {

@@ -68,14 +68,14 @@ impl<'a> Run<'a> {
 
     /// Runs the frame of a line and prints it: "frame number from 0 (width 8), nodes working in
     /// it (4), nodes whose memory then equals the single controller's (4), A plane values (20
-    /// each)". None: the line is refused.
+    /// each)", and "a last column of width 4", the agreement. None: the line is refused.
     fn frame(&mut self, line: &[u8], number: usize, out: &mut Vec<u8>) -> Option<()> {
         let (mask, fill) = run_line(self.plan, line, &mut self.sensors)?;
         // "Only bad nodes' bytes matter."
         if mask != 0 && self.faults[0] != fill {
             self.faults.fill(fill);
         }
-        let working =
+        let (working, agreement) =
             self.system.frame(self.plan, &self.sensors, mask, &self.faults, &mut self.place);
         self.single.compute(self.plan, &self.sensors);
         let equal = self.system.memories.iter().filter(|&memory| *memory == self.single).count();
@@ -83,6 +83,7 @@ impl<'a> Run<'a> {
         push_number(out, working as u64, 4);
         push_number(out, equal as u64, 4);
         self.place.iter().for_each(|&value| push_number(out, value, 20));
+        push_number(out, agreement as u64, 4);
         out.push(b'\n');
         Some(())
     }

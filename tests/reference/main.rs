@@ -1,5 +1,5 @@
-//! An independent reference for the voting frame controller, written from document 01 and request
-//! 2026-01 alone, with a generator of test cases and a comparer. See README.md.
+//! An independent reference for the voting frame controller, written from document 01 and requests
+//! 2026-01 and 2026-02 alone, with a generator of test cases and a comparer. See README.md.
 
 #[allow(dead_code)]
 #[cfg(test)]

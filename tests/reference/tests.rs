@@ -1,5 +1,5 @@
-//! Document 01's short table and plan K, cams and refusals worked out by hand, and the premise of
-//! demand 3.
+//! Document 01's short table and plan K, cams, agreements and refusals worked out by hand, and the
+//! premise of demand 3.
 
 use std::collections::{BTreeMap, BTreeSet};
 
@@ -220,6 +220,193 @@ fn votes_of_the_resulting_counter() {
     assert_eq!((memory.counter, memory.cells), (1, vec![5, 9]));
 }
 
+/// Plan K with `nodes` nodes; also with a vote of cell 0 in frame 0.
+fn k_of(nodes: u64, both_voted: bool) -> Plan {
+    let rows = changed(&K, 1, &[(1, nodes)]);
+    let rows = if both_voted { with(&rows, 6, [20, 0, 0, 0, 0, 0]) } else { rows };
+    read(&plan_text(&rows)).unwrap()
+}
+
+/// A message with a counter and two cells.
+fn message(counter: u16, cells: [u64; 2]) -> [u8; 18] {
+    let mut bytes = [0; 18];
+    bytes[..2].copy_from_slice(&counter.to_be_bytes());
+    bytes[2..10].copy_from_slice(&cells[0].to_be_bytes());
+    bytes[10..].copy_from_slice(&cells[1].to_be_bytes());
+    bytes
+}
+
+/// The agreement of a vote with the node's own counter over bins of a counter and two cells.
+fn agreement(plan: &Plan, own: u16, bins: &[(u16, [u64; 2])]) -> usize {
+    let mut memory = Memory { counter: own, cells: vec![70, 90] };
+    let bins: Vec<_> = bins.iter().map(|&(counter, cells)| message(counter, cells)).collect();
+    memory.vote(plan, &bins.concat())
+}
+
+/// "How many bins hold it"; "the least such count over its counter and voted cells". Counter 0 is
+/// after frame 1, in which K votes cell 1.
+#[test]
+fn agreement_is_the_least_count() {
+    let five = k_of(5, false);
+    let vote = |counters: [u16; 5], cells: [u64; 5]| {
+        let bins = [0, 1, 2, 3, 4].map(|bin| (counters[bin], [bin as u64, cells[bin]]));
+        agreement(&five, 0, &bins)
+    };
+    assert_eq!(vote([0; 5], [7; 5]), 5);
+    assert_eq!(vote([0; 5], [7, 7, 8, 7, 7]), 4);
+    assert_eq!(vote([0, 0, 0, 9, 0], [7; 5]), 4);
+    assert_eq!(vote([0, 0, 0, 9, 0], [7, 7, 7, 8, 9]), 3);
+    assert_eq!(vote([0, 0, 0, 1, 1], [7, 7, 8, 7, 7]), 3);
+    assert_eq!(vote([1, 1, 0, 0, 0], [8, 7, 7, 7, 7]), 3);
+    // The first bin holds no voted value.
+    assert_eq!(vote([9, 0, 0, 0, 0], [1, 2, 7, 7, 7]), 3);
+    assert_eq!(vote([0; 5], [NAN, NAN, NAN, NAN, NAN | 1]), 4);
+}
+
+/// "0 where no value has more than half": a cell too, which then stays.
+#[test]
+fn half_is_no_agreement() {
+    let four = k_of(4, false);
+    let vote = |counters: [u16; 4], cells: [u64; 4]| {
+        agreement(&four, 0, &[0, 1, 2, 3].map(|bin| (counters[bin], [0, cells[bin]])))
+    };
+    assert_eq!(vote([0, 0, 1, 1], [7; 4]), 0);
+    assert_eq!(vote([0; 4], [7, 7, 8, 8]), 0);
+    assert_eq!(vote([0; 4], [0, 0, MINUS, MINUS]), 0);
+    assert_eq!(vote([0; 4], [7, 7, 8, 9]), 0);
+    assert_eq!(vote([0; 4], [1, 2, 3, 4]), 0);
+    assert_eq!(vote([0; 4], [7, 8, 7, 7]), 3);
+    assert_eq!(agreement(&k(), 0, &[(0, [0, 7]), (0, [0, 8]), (0, [0, 9])]), 0);
+}
+
+/// A voted counter >= F is not taken, and its holders count.
+#[test]
+fn agreement_on_a_counter_past_the_frames() {
+    let [seven, eight] = [[0, 7], [0, 8]];
+    assert_eq!(agreement(&k(), 1, &[(5, seven), (5, seven), (1, seven)]), 2);
+    assert_eq!(agreement(&k(), 1, &[(2, seven), (2, eight), (2, [0, 9])]), 3);
+    // The own counter 0 stays: cell 1 is voted.
+    assert_eq!(agreement(&k(), 0, &[(5, seven), (5, seven), (5, seven)]), 3);
+    assert_eq!(agreement(&k(), 0, &[(5, seven), (5, seven), (5, eight)]), 2);
+    assert_eq!(agreement(&k(), 0, &[(5, seven), (5, eight), (5, [0, 9])]), 0);
+    // An own counter of 7 is after frame 0 too, one of 6 after frame 1.
+    assert_eq!(agreement(&k(), 7, &[(5, seven), (5, eight), (5, [0, 9])]), 3);
+    assert_eq!(agreement(&k(), 6, &[(5, seven), (5, eight), (5, [0, 9])]), 0);
+}
+
+/// The voted cells are those of the frame before the resulting counter.
+#[test]
+fn agreement_on_the_cells_of_the_resulting_counter() {
+    let plan = k_of(3, true);
+    let bins = |counter: u16| [(counter, [5, 1]), (counter, [5, 2]), (counter, [6, 3])];
+    assert_eq!((agreement(&plan, 0, &bins(1)), agreement(&plan, 1, &bins(1))), (2, 2));
+    assert_eq!((agreement(&plan, 0, &bins(0)), agreement(&plan, 1, &bins(0))), (0, 0));
+    // No counter is voted, which is 0 whatever the cells are.
+    assert_eq!(agreement(&plan, 1, &[(1, [5, 5]), (0, [5, 5]), (9, [5, 5])]), 0);
+    // K votes no cell in frame 0: the counter's count alone.
+    assert_eq!(agreement(&k(), 0, &bins(1)), 3);
+    assert_eq!(agreement(&k(), 0, &[(1, [5, 1]), (1, [5, 2]), (0, [6, 3])]), 2);
+    assert_eq!(agreement(&k(), 1, &[(1, [5, 5]), (0, [5, 5]), (9, [5, 5])]), 0);
+}
+
+/// What a bad node sends to a receiver.
+type Sent = (usize, usize, u16, [u64; 2]);
+
+/// The agreement of a frame; the other messages of bad nodes are zero bytes.
+fn frame_agreement(plan: &Plan, system: &mut System, mask: u64, sent: &[Sent]) -> usize {
+    let mut faults = vec![0; fault_length(plan)];
+    for &(sender, receiver, counter, cells) in sent {
+        let at = sender * faults.len() / plan.nodes + (1 + receiver) * 18;
+        faults[at..at + 18].copy_from_slice(&message(counter, cells));
+    }
+    system.frame(plan, &[1.0f64.to_bits()], mask, &faults, &mut [0]).1
+}
+
+/// "The least over the good nodes": node 4 of five is bad and tells each receiver something else.
+/// All others send counter 1 and no cell in frame 0, then counter 0 and cell 1.
+#[test]
+fn agreement_by_receiver() {
+    let plan = k_of(5, false);
+    let first = |counters: [u16; 5]| {
+        let sent = [0, 1, 2, 3, 4].map(|to| (4, to, counters[to], [0, 0]));
+        frame_agreement(&plan, &mut System::power_on(&plan), 16, &sent)
+    };
+    assert_eq!(first([1, 1, 1, 1, 1]), 5);
+    assert_eq!(first([1, 1, 1, 1, 9]), 5);
+    assert_eq!(first([9, 1, 1, 1, 1]), 4);
+    assert_eq!(first([1, 1, 0, 1, 1]), 4);
+    assert_eq!(first([1, 1, 1, 9, 1]), 4);
+    assert_eq!(first([9, 9, 9, 9, 1]), 4);
+    let one = 1.0f64.to_bits();
+    let second = |cells: [u64; 5]| {
+        let mut system = System::power_on(&plan);
+        assert_eq!(frame_agreement(&plan, &mut system, 0, &[]), 5);
+        let sent = [0, 1, 2, 3, 4].map(|to| (4, to, 0, [9, cells[to]]));
+        frame_agreement(&plan, &mut system, 16, &sent)
+    };
+    assert_eq!(second([one; 5]), 5);
+    assert_eq!(second([one, one, one, one, 0]), 5);
+    assert_eq!(second([one, 0, one, one, one]), 4);
+}
+
+/// What a bad node hears counts for nothing, however little agrees in it.
+#[test]
+fn bad_nodes_have_no_agreement() {
+    let plan = k_of(5, false);
+    let to = |sender: usize, counters: [u16; 5]| {
+        [0, 1, 2, 3, 4].map(|to| (sender, to, counters[to], [0, 0]))
+    };
+    // Nodes 3 and 4 are bad and hear 1 1 1 9 9; then they hear 1 only, and node 2 one 9.
+    let mut system = System::power_on(&plan);
+    let sent = [to(3, [1, 1, 1, 9, 9]), to(4, [1, 1, 1, 9, 9])].concat();
+    assert_eq!(frame_agreement(&plan, &mut system, 24, &sent), 5);
+    let mut system = System::power_on(&plan);
+    let sent = [to(3, [1, 1, 9, 1, 1]), to(4, [1, 1, 1, 1, 1])].concat();
+    assert_eq!(frame_agreement(&plan, &mut system, 24, &sent), 4);
+    // "0 if all are bad", though all of them send the same.
+    let sent = [0, 1, 2, 3, 4].map(|sender| to(sender, [1; 5])).concat();
+    assert_eq!(frame_agreement(&plan, &mut system, 31, &sent), 0);
+    let mut system = System::power_on(&plan);
+    assert_eq!(frame_agreement(&plan, &mut system, 30, &sent), 5);
+}
+
+/// Good nodes count, whether they work or not.
+#[test]
+fn agreement_of_nodes_that_do_not_work() {
+    let plan = k_of(5, false);
+    let sent = [(4, 0, 1, [0, 0]), (4, 1, 1, [0, 0]), (4, 2, 1, [0, 0]), (4, 3, 9, [0, 0])];
+    for counts in [[3, 3, 3, 1, 3], [3, 3, 3, 3, 0], [0, 0, 0, 2, 0]] {
+        let mut system = System::power_on(&plan);
+        system.counts = counts.to_vec();
+        assert_eq!(frame_agreement(&plan, &mut system, 16, &sent), 4);
+    }
+    let mut system = System::power_on(&plan);
+    system.counts = vec![0; 5];
+    assert_eq!(frame_agreement(&plan, &mut system, 0, &[]), 5);
+}
+
+/// Nodes 0 and 1 of three are good and a frame apart: node 0 sends counter 1 and no cell, node 1
+/// counter 0 and cell 1, which is 2. Node 2 can side with either.
+#[test]
+fn agreement_where_good_nodes_take_other_counters() {
+    let plan = k();
+    let [one, two] = [1.0f64.to_bits(), 2.0f64.to_bits()];
+    let vote = |to_0: u16, to_1: u16, cell: u64| {
+        let mut system = System::power_on(&plan);
+        system.memories[1] = Memory { counter: 1, cells: vec![one, one] };
+        let sent = [(2, 0, to_0, [0, 0]), (2, 1, to_1, [0, cell])];
+        let agreement = frame_agreement(&plan, &mut system, 4, &sent);
+        ([0, 1].map(|node| system.memories[node].counter), agreement)
+    };
+    // Node 0 votes no cell; node 1 votes cell 1 over the bins 0, 2 and what node 2 sends.
+    assert_eq!(vote(1, 0, two), ([1, 0], 2));
+    assert_eq!(vote(1, 0, 0), ([1, 0], 2));
+    assert_eq!(vote(1, 0, one), ([1, 0], 0));
+    assert_eq!(vote(1, 1, one), ([1, 1], 2));
+    // Node 0 hears the counters 1, 0 and 9.
+    assert_eq!(vote(9, 1, one), ([1, 1], 0));
+}
+
 /// The fault bytes: "for each node its memory after the frame, its n messages by receiver, its A
 /// setpoints".
 #[test]
@@ -321,9 +508,12 @@ fn order_of_refusals() {
         let (mut counters, mut cells, mut place) = ([9; 7], [9; 224], [9]);
         let rows = (&mut counters, &mut cells);
         let faults = vec![0; faults];
+        let mut agreement = 9;
+        let gives = (&mut place, &mut agreement);
         let answer =
-            calls::system_frame(plan, rows.0, rows.1, good, &[0], mask, &faults, &mut place);
+            calls::system_frame(plan, rows.0, rows.1, good, &[0], mask, &faults, gives.0, gives.1);
         assert!(answer == 0 || (counters, cells, place) == ([9; 7], [9; 224], [9]));
+        assert_eq!(agreement > 0, answer == 0 && mask != 7);
         // Node 3 and cell 2 are past the plan's.
         assert!((counters[3], cells[2], cells[96]) == (9, 9, 9));
         answer
@@ -336,12 +526,28 @@ fn order_of_refusals() {
     assert_eq!(call(Some(&plan), &mut [4; 6], 8, length), 9);
     let mut good = [3, 1, 0, 9, 9, 9, 9];
     assert_eq!((call(Some(&plan), &mut good, 1, length), good), (0, [0, 2, 1, 9, 9, 9, 9]));
+    assert_eq!(call(Some(&plan), &mut [3; 7], 7, length), 0);
     let mut count = 5;
     assert_eq!(
         (calls::system_working(Some(&plan), &[3, 2, 3, 9, 9, 9, 9], 1, &mut count), count),
         (0, 1)
     );
     assert_eq!((calls::system_working(Some(&plan), &[3; 8], 0, &mut count), count), (8, 0));
+}
+
+/// The agreement is 0 beside 7 and 8.
+#[test]
+fn agreement_beside_a_refusal() {
+    let (plan, bins) = (k(), message(0, [0, 7]).repeat(3));
+    let vote = |plan: Option<&Plan>, cells: usize, bytes: usize| {
+        let (mut counter, mut cells, mut agreement) = (1, vec![9; cells], 5);
+        let bins = &bins[..bytes];
+        (calls::node_vote(plan, &mut counter, &mut cells, bins, &mut agreement), agreement)
+    };
+    assert_eq!(vote(Some(&plan), 32, 54), (0, 3));
+    assert_eq!(vote(None, 32, 54), (7, 0));
+    assert_eq!(vote(Some(&plan), 31, 54), (8, 0));
+    assert_eq!(vote(Some(&plan), 32, 53), (8, 0));
 }
 
 fn k_run() -> Vec<u8> {
@@ -351,12 +557,14 @@ fn k_run() -> Vec<u8> {
     masks.into_iter().zip(sensors).map(line).collect::<String>().into_bytes()
 }
 
-const K_LISTING: &str = "       0   3   3                   0
-       1   2   2 4607182418800017408
-       2   2   2 4607182418800017408
-       3   2   2 4613937818241073152
-       4   2   3 4613937818241073152
-       5   3   3 4618441417868443648
+/// The last column: node 2 is bad in frame 1, sends counter 0 and not 1 in frame 2 (65,535 mod 2 is
+/// 1), a NaN as cell 1 in frame 3, and what the others send from frame 4 on.
+const K_LISTING: &str = "       0   3   3                   0   3
+       1   2   2 4607182418800017408   2
+       2   2   2 4607182418800017408   2
+       3   2   2 4613937818241073152   2
+       4   2   3 4613937818241073152   3
+       5   3   3 4618441417868443648   3
 ";
 
 #[test]
@@ -364,13 +572,32 @@ fn listing_of_k() {
     let printed = |plan: &[u8], run: &[u8]| String::from_utf8(listing(plan, run).bytes).unwrap();
     let (plan, run) = (plan_text(&K), k_run());
     assert_eq!(printed(&plan, &run), K_LISTING);
-    let five_frames = K_LISTING[..5 * 37].to_owned();
+    let five_frames = K_LISTING[..5 * 41].to_owned();
     assert_eq!(printed(&plan, &run[..run.len() - 1]), five_frames + "  10       6\n");
     assert_eq!(printed(&plan, b""), "");
     assert_eq!(printed(b"", &run), "   1       0\n");
     assert_eq!(printed(&plan, b"   8   0                   0\n"), "  10       1\n");
     assert_eq!(printed(&plan, b"   7 256                   0\n"), "  10       1\n");
     assert_eq!(printed(&plan_text(&without(&K, 6)), b"x"), "   6       0\n");
+}
+
+/// K with four nodes: two bad ones of four, three that agree on a counter >= F, all of them.
+#[test]
+fn agreement_of_a_listing() {
+    let plan = plan_text(&changed(&K, 1, &[(1, 4)]));
+    let printed = |mask: u64| {
+        // The second line is refused.
+        let run = format!("{mask:4} 255                   0\n  16");
+        String::from_utf8(listing(&plan, run.as_bytes()).bytes).unwrap()
+    };
+    let line = |working: u64, setpoint: u64, agreement: u64| {
+        format!("       0{working:4}{working:4}{setpoint:20}{agreement:4}\n  10       2\n")
+    };
+    assert_eq!(printed(0), line(4, 0, 4));
+    assert_eq!(printed(1), line(3, 0, 3));
+    assert_eq!(printed(12), line(2, 0, 0));
+    assert_eq!(printed(14), line(1, u64::MAX, 3));
+    assert_eq!(printed(15), line(0, u64::MAX, 0));
 }
 
 /// All nodes and the single controller run the cam.
@@ -380,7 +607,8 @@ fn listing_of_a_cutter() {
     let entries = [0.0, 1.0, 32_576.0, 32_768.0, 65_535.0, 65_536.0, 65_536.0, 0.0, 0.0, 0.0f64];
     let line = |position: &f64| format!("   0   0{:20}\n", position.to_bits());
     let run: String = positions.iter().map(line).collect();
-    let line = |(frame, entry): (usize, &f64)| format!("{frame:8}   3   3{:20}\n", entry.to_bits());
+    let line =
+        |(frame, entry): (usize, &f64)| format!("{frame:8}   3   3{:20}   3\n", entry.to_bits());
     let expected: String = entries.iter().enumerate().map(line).collect();
     assert_eq!(listing(&plan_text(&CUTTER), run.as_bytes()).bytes, expected.as_bytes());
 }
@@ -563,7 +791,8 @@ fn runs_have_cams_in_each_case() {
 }
 
 /// Demand 3: within its premise the plane hands on the single controller's setpoints, and the
-/// working nodes' memories equal the single controller's.
+/// working nodes' memories equal the single controller's. As these send the same, the agreement is
+/// not below their number.
 #[test]
 fn within_the_premise_the_system_is_the_single_controller() {
     for case in (0..1000).map(case).filter(|case| case.class == "within the premise") {
@@ -574,9 +803,10 @@ fn within_the_premise_the_system_is_the_single_controller() {
         for (mask, fill, sensors) in frames(&plan, case.run.unwrap()) {
             let faults = vec![fill; fault_length(&plan)];
             let before = system.counts.clone();
-            let working = system.frame(&plan, &sensors, mask, &faults, &mut place);
+            let (working, agreement) = system.frame(&plan, &sensors, mask, &faults, &mut place);
             single.compute(&plan, &sensors);
             assert!(2 * working > plan.nodes);
+            assert!((working..=plan.nodes).contains(&agreement));
             for node in 0..plan.nodes {
                 let works = mask >> node & 1 == 0 && before[node] == plan.period;
                 assert!(!works || system.memories[node] == single);

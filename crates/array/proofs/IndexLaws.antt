@@ -40,6 +40,15 @@ module _ (q : ℕ → Bool) where
   pub allBelow-fails : (n k : ℕ) → k < n → q k ≡ false → allBelow q n ≡ false
   allBelow-fails n k l e = split (allBelow q n) (λ t. absurd (clash (allBelow-at n k l t) e)) (λ t. t)
 
+  -- where not all pass, one fails
+  pub allBelow-not : (n : ℕ) → allBelow q n ≡ false → (k : ℕ) × (k < n) × (q k ≡ false)
+  unfolding allBelow
+  allBelow-not zero = λ e. absurd (clash refl e)
+  allBelow-not (suc n) =
+      split (allBelow q n)
+      (λ t. rw t (λ e. (n, omega arith, e)))
+      (λ t. rw t (λ e. let r = allBelow-not n t in (r .0, omega (arith, r .1), r .2)))
+
 -- ---- every entry of a list passes
 
 module _ (q : ℕ → Bool) where

@@ -6,3 +6,4 @@ pub mod BitLaws
 pub mod PlacedLaws
 pub mod LoopLaws
 pub mod TableLaws
+pub mod LeastLaws

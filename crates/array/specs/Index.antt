@@ -1,7 +1,8 @@
 -- Definitions that recur on an index, as a loop over 0 .. n-1 does, and on a list.
 use mathlib.Core.Bool.{Bool, true, cond, _&&_}
 use mathlib.Core.List.{List, [], _∷_, _++_}
-use Prim.Native.Nat.{ℕ, zero, suc, _+_}
+use mathlib.Core.Option.{Option, none, some}
+use Prim.Native.Nat.{ℕ, zero, suc, _+_, min}
 use lib.ListN.{getD, set}
 
 -- how many of 0 .. n-1 pass the test
@@ -13,6 +14,16 @@ howMany q (suc k) = howMany q k + cond (q k) 1 0
 unfoldable pub allBelow : (ℕ → Bool) → ℕ → Bool
 allBelow q zero = true
 allBelow q (suc k) = allBelow q k && q k
+
+-- the lesser of a number and of one that may be missing
+unfoldable pub lesser : ℕ → Option ℕ → ℕ
+lesser x none = x
+lesser x (some y) = min x y
+
+-- the least f k of the k in 0 .. n-1 that are taken; none where none is
+unfoldable pub least : (ℕ → Bool) → (ℕ → ℕ) → ℕ → Option ℕ
+least take f zero = none
+least take f (suc k) = cond (take k) (some (lesser (f k) (least take f k))) (least take f k)
 
 -- every entry of a list passes the test
 unfoldable pub allIn : (ℕ → Bool) → List ℕ → Bool

@@ -10,10 +10,10 @@ use lib.ListN.{length, set}
 use lib.Seq.{getD-set-same, getD-set-other}
 use borrow.Author.Tests.{eqb-true, eqb-false}
 use Rattle.array.proofs.TestLaws.{split}
-use Rattle.ballot.specs.Majority.{majority}
+use Rattle.ballot.specs.Majority.{holders, majority}
 use Rattle.ballot.specs.Plane.{plane}
 use Rattle.ballot.specs.Code.{packed, Told}
-use Rattle.ballot.proofs.MajorityLaws.{majority-same}
+use Rattle.ballot.proofs.MajorityLaws.{holders-same, majority-same}
 use Rattle.ballot.proofs.PlaneLaws.{plane-same}
 use Rattle.ballot.proofs.PackedLaws.{packed-in}
 
@@ -28,6 +28,9 @@ module _ (bin : ℕ → Option ℕ) (values : List ℕ) where
       (λ q. t i (omega (arith, eqb-false i j q)) ∙ ap some (sym (getD-set-other values j i w 0 (eqb-false i j q))))
 
 module _ (bin : ℕ → Option ℕ) (n : ℕ) (values : List ℕ) (t : Told bin n values) where
+  pub told-holders : (v : ℕ) → holders (packed values n) n v ≡ holders bin n v
+  told-holders v = holders-same (packed values n) bin n v (λ j l. packed-in values n j l ∙ sym (t j l))
+
   pub told-majority : majority (packed values n) n ≡ majority bin n
   told-majority = majority-same (packed values n) bin n (λ j l. packed-in values n j l ∙ sym (t j l))
 

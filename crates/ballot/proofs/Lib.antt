@@ -3,3 +3,4 @@ pub mod ScanLaws
 pub mod PlaneLaws
 pub mod PackedLaws
 pub mod BinLaws
+pub mod AgreementLaws

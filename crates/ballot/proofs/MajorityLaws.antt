@@ -11,7 +11,7 @@ use borrow.Author.Tests.{ltb-true, ltb-false, eqb-true, eqb-false, eq-eqb}
 use Rattle.array.specs.Index.{howMany}
 use Rattle.array.proofs.TestLaws.{split, clash}
 use Rattle.array.proofs.IndexLaws.{howMany-le, howMany-apart, howMany-some}
-use Rattle.ballot.specs.Majority.{holds, holders, shared, orElse, firstShared, majority}
+use Rattle.ballot.specs.Majority.{holds, holders, backing, shared, orElse, firstShared, majority}
 
 -- ---- a bin holds a value, or nothing
 
@@ -40,6 +40,11 @@ pub holders-same : (f g : ℕ → Option ℕ) (n v : ℕ) → ((j : ℕ) → j <
 unfolding holders howMany
 holders-same f g zero v e = refl
 holders-same f g (suc n) v e = rw (holders-same f g n v (λ j l. e j (omega arith)), e n (omega arith))
+
+pub backing-same : (f g : ℕ → Option ℕ) (n : ℕ) → ((j : ℕ) → j < n → f j ≡ g j) → (o : Option ℕ) → backing f n o ≡ backing g n o
+unfolding backing
+backing-same f g n e none = refl
+backing-same f g n e (some v) = holders-same f g n v e
 
 pub holders-some : (bin : ℕ → Option ℕ) (n v : ℕ) → 0 < holders bin n v → (j : ℕ) × (j < n) × (bin j ≡ some v)
 unfolding holders

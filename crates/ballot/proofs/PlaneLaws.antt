@@ -9,9 +9,9 @@ use native.Mathlib.Nat.{le-refl, not-suc-le-zero}
 use lib.Dec.{eqb, ltb}
 use borrow.Author.Tests.{ltb-true, ltb-false, eqb-true, eqb-false}
 use Rattle.array.proofs.TestLaws.{split}
-use Rattle.ballot.specs.Majority.{holders}
-use Rattle.ballot.specs.Plane.{backing, mostHeld, plane}
-use Rattle.ballot.proofs.MajorityLaws.{no-some, holders-same, holders-some, majority-unique}
+use Rattle.ballot.specs.Majority.{holders, backing}
+use Rattle.ballot.specs.Plane.{mostHeld, plane}
+use Rattle.ballot.proofs.MajorityLaws.{no-some, backing-same, holders-some, majority-unique}
 use Rattle.ballot.proofs.ScanLaws.{holders-held}
 
 -- v is put out by the most of n nodes, and `holder` is the lowest of all nodes whose value that many put out
@@ -24,15 +24,10 @@ pub record Handed (put : ℕ → Option ℕ) (n v : ℕ) : Type 0 where
 
 -- the plane sees only what the n nodes put out
 module _ (f g : ℕ → Option ℕ) (n : ℕ) (e : (j : ℕ) → j < n → f j ≡ g j) where
-  backing-same : (o : Option ℕ) → backing f n o ≡ backing g n o
-  unfolding backing
-  backing-same none = refl
-  backing-same (some v) = holders-same f g n v e
-
   held-same : (k : ℕ) → k ≤ n → mostHeld f n k ≡ mostHeld g n k
   unfolding mostHeld
   held-same zero l = refl
-  held-same (suc k) l = rw (held-same k (omega arith), e k l, backing-same (mostHeld g n k), backing-same (g k))
+  held-same (suc k) l = rw (held-same k (omega arith), e k l, backing-same f g n e (mostHeld g n k), backing-same f g n e (g k))
 
   pub plane-same : plane f n ≡ plane g n
   unfolding plane

@@ -9,8 +9,8 @@ use borrow.Author.Tests.{eqb-true, eqb-false, lt-ltb, le-ltb}
 use Rattle.array.specs.Index.{howMany}
 use Rattle.array.proofs.TestLaws.{split}
 use Rattle.array.proofs.IndexLaws.{howMany-hit, howMany-miss, howMany-grows}
-use Rattle.ballot.specs.Majority.{holds, holders}
-use Rattle.ballot.specs.Plane.{backing, mostHeld}
+use Rattle.ballot.specs.Majority.{holds, holders, backing}
+use Rattle.ballot.specs.Plane.{mostHeld}
 use Rattle.ballot.proofs.MajorityLaws.{no-some, holds-true, some-holds}
 
 -- ---- the holders of a value

@@ -16,6 +16,11 @@ holds (some v) x = eqb v x
 unfoldable pub holders : (ℕ → Option ℕ) → ℕ → ℕ → ℕ
 holders bin n x = howMany (λ j. holds (bin j) x) n
 
+-- how many of the n hold what one holds; none where that is nothing
+unfoldable pub backing : (ℕ → Option ℕ) → ℕ → Option ℕ → ℕ
+backing bin n none = 0
+backing bin n (some v) = holders bin n v
+
 -- what a bin holds, where more than half of the n bins share it
 unfoldable pub shared : (ℕ → Option ℕ) → ℕ → Option ℕ → Option ℕ
 shared bin n none = none
@@ -33,6 +38,10 @@ firstShared bin n (suc i) = orElse (firstShared bin n i) (shared bin n (bin i))
 -- the voted value of n bins
 unfoldable pub majority : (ℕ → Option ℕ) → ℕ → Option ℕ
 majority bin n = firstShared bin n n
+
+-- Request 2026-02: "A vote is to give, beside the value, how many bins hold it (0 where no value has more than half)."
+unfoldable pub agreement : (ℕ → Option ℕ) → ℕ → ℕ
+agreement bin n = backing bin n (majority bin n)
 
 -- "Counters are voted first; with no such value, or one ≥ F, the node's own stays."
 unfoldable pub orOwn : ℕ → ℕ → Option ℕ → ℕ

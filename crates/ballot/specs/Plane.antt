@@ -1,15 +1,10 @@
 -- Document 01: "The plane hands on, for each actuator, the value that most nodes put out; of tied values, the one whose lowest-numbered holder is
 -- lowest. All comparisons .. are of bits." A node may put out nothing.
 use mathlib.Core.Bool.{cond}
-use mathlib.Core.Option.{Option, none, some}
+use mathlib.Core.Option.{Option, none}
 use Prim.Native.Nat.{ℕ, zero, suc}
 use lib.Dec.{ltb}
-use Rattle.ballot.specs.Majority.{holders}
-
--- how many of the n put out what one puts out; none where it is silent
-unfoldable pub backing : (ℕ → Option ℕ) → ℕ → Option ℕ → ℕ
-backing put n none = 0
-backing put n (some v) = holders put n v
+use Rattle.ballot.specs.Majority.{backing}
 
 -- of what the first k put out, the value that the most of the n put out; of tied ones that of the lowest
 unfoldable pub mostHeld : (ℕ → Option ℕ) → ℕ → ℕ → Option ℕ

@@ -1,9 +1,9 @@
 // The steps of a vote, for callers that know how many bins there are. Of n bins, k hold something; their values stand packed in the front of an array.
 ghost use mathlib.Core.Path.{_≡_};
 ghost use mathlib.Core.Option.{some, Option·getD};
-ghost use Prim.Native.Nat.{_<_, _≤_};
+ghost use Prim.Native.Nat.{_<_, _≤_, min as minOf};
 ghost use Rattle.plan.specs.Limits.{mostNodes, mostFrames};
-ghost use Rattle.ballot.specs.Majority.{holders as holdersOf, majority as majorityOf, orOwn, votedValue};
+ghost use Rattle.ballot.specs.Majority.{holders as holdersOf, backing, majority as majorityOf, orOwn, votedValue};
 ghost use Rattle.ballot.specs.Plane.{plane as planeOf};
 ghost use Rattle.ballot.specs.Code.{packed};
 use super::Voted;
@@ -49,6 +49,23 @@ pub fn majority(values: &[u64; Plan::NODES], k: usize, n: usize) -> Voted
         i += 1;
     }
     found
+}
+
+// How many of the n values are the voted one.
+pub fn agreement(values: &[u64; Plan::NODES], n: usize, v: Voted) -> usize
+    requires { ⌜ n ≤ mostNodes ⌝ }
+    ensures { λ r. ⌜ r ≡ backing (packed (now (values .entry)) n) n (votedValue v) ⌝ }
+{
+    let Voted::Value(x) = v else {
+        return 0;
+    };
+    holders(values, n, x)
+}
+
+pub fn min(x: usize, y: usize) -> usize
+    ensures { λ r. ⌜ r ≡ minOf x y ⌝ }
+{
+    if y < x { y } else { x }
 }
 
 pub fn or_own(frames: usize, own: u16, v: Voted) -> u16

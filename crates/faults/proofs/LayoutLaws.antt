@@ -13,7 +13,7 @@ use borrow.Rule.Slice.PartMut.{putMid}
 use Rattle.array.specs.Index.{fill}
 use Rattle.array.specs.Bit.{bit}
 use Rattle.array.specs.Place.{placed}
-use Rattle.array.proofs.TestLaws.{split, clash, and-left}
+use Rattle.array.proofs.TestLaws.{split, and-left}
 use Rattle.array.proofs.BitLaws.{bit-none}
 use Rattle.array.proofs.LoopLaws.{stored-next, stored-still}
 use Rattle.array.proofs.PlacesLaws.{fill-in, fill-length, fill-kept}

@@ -28,7 +28,7 @@ use Rattle.system.specs.declared.System.{System}
 use Rattle.faults.specs.Code.{Small, Parts}
 use Rattle.faults.proofs.LayoutLaws.{parts-all}
 use Rattle.system.specs.declared.Framed.{Framed}
-use Rattle.system.specs.Frame.{memoryOf, maskOk, countsOk, lengthsOk, frameTests, frameAnswer, framePlace, systemAfter, placeAfter, singlePlace, singleTests, singleAnswer, singlePlaceAfter, workingTests, workingAnswer, sameMemory, equalTests, equalAnswer}
+use Rattle.system.specs.Frame.{memoryOf, maskOk, countsOk, lengthsOk, frameTests, frameAnswer, framePlace, systemAfter, placeAfter, frameAgreement, singlePlace, singleTests, singleAnswer, singlePlaceAfter, workingTests, workingAnswer, sameMemory, equalTests, equalAnswer}
 
 -- ---- a frame
 
@@ -39,27 +39,27 @@ module _ (p : Plan) (sys : System) (sensors : List ℕ) (mask : ℕ) (faults pla
   abbrev put : List ℕ
   put = framePlace p sys sensors mask faults place
 
-  pub frame-plan : accepted p ≡ false → (record { answer = InvalidPlan; system = sys } ≡ framed) × (place ≡ put)
+  pub frame-plan : accepted p ≡ false → (record { answer = InvalidPlan; system = sys; agreement = 0 } ≡ framed) × (place ≡ put)
   unfolding frameAnswer framePlace frameTests answered passed ifPassed answerOf
   frame-plan a = (rw a, rw a)
 
   module _ (a : accepted p ≡ true) where
-    pub frame-mask : (maskOk p mask && countsOk p sys) ≡ false → (record { answer = MaskOrCount; system = sys } ≡ framed) × (place ≡ put)
+    pub frame-mask : (maskOk p mask && countsOk p sys) ≡ false → (record { answer = MaskOrCount; system = sys; agreement = 0 } ≡ framed) × (place ≡ put)
     unfolding frameAnswer framePlace frameTests answered passed ifPassed answerOf
     frame-mask m = (rw (a, m), rw (a, m))
 
     module _ (m : (maskOk p mask && countsOk p sys) ≡ true) where
-      pub frame-length : lengthsOk p (length sensors) (length faults) (length place) ≡ false → (record { answer = WrongLength; system = sys } ≡ framed) × (place ≡ put)
+      pub frame-length : lengthsOk p (length sensors) (length faults) (length place) ≡ false → (record { answer = WrongLength; system = sys; agreement = 0 } ≡ framed) × (place ≡ put)
       unfolding frameAnswer framePlace frameTests answered passed ifPassed answerOf
       frame-length l = (rw (a, m, l), rw (a, m, l))
 
       pub frame-done :
           lengthsOk p (length sensors) (length faults) (length place) ≡ true →
-          {next : System} {now : List ℕ} →
-          (next ≡ systemAfter p sys sensors mask faults) × (now ≡ placeAfter p sys sensors mask faults place) →
-          (record { answer = Done; system = next } ≡ framed) × (now ≡ put)
+          {next : System} {agreed : ℕ} {now : List ℕ} →
+          (next ≡ systemAfter p sys sensors mask faults) × (agreed ≡ frameAgreement p sys sensors mask faults) × (now ≡ placeAfter p sys sensors mask faults place) →
+          (record { answer = Done; system = next; agreement = agreed } ≡ framed) × (now ≡ put)
       unfolding frameAnswer framePlace frameTests answered passed ifPassed answerOf
-      frame-done l h = (rw (a, m, l, h .0), rw (a, m, l) (h .1))
+      frame-done l h = (rw (a, m, l, h .0, h .1), rw (a, m, l) (h .2))
 
   -- the refusal's number is that of the first test that fails
   pub frame-number : numberOf (framed .answer) ≡ numberIn (frameTests p sys sensors mask faults place)

@@ -9,7 +9,7 @@ ghost use Rattle.plan.specs.Accepted.{accepted};
 ghost use Rattle.plan.specs.Known.{period as periodOf};
 ghost use Rattle.plan.specs.Sizes.{sizesOf};
 ghost use Rattle.system.specs.Fault.{faultsSize};
-ghost use Rattle.system.specs.Frame.{lengthsOk, systemAfter, placeAfter, frameAnswer, framePlace, singleAnswer, singlePlaceAfter, workingAnswer, equalAnswer};
+ghost use Rattle.system.specs.Frame.{lengthsOk, systemAfter, placeAfter, frameAgreement, frameAnswer, framePlace, singleAnswer, singlePlaceAfter, workingAnswer, equalAnswer};
 use answer::Answer;
 use memory::Memory;
 use memory::Outcome;
@@ -36,6 +36,12 @@ fn lengths_ok(plan: Plan, sensors: usize, faults: usize, place: usize) -> bool
         & (place == plan.actuators)
 }
 
+// A record after a frame, and the frame's agreement.
+struct Stepped {
+    system: System,
+    agreement: usize,
+}
+
 // The record on rows, a frame of them, and the record again.
 fn on_rows(
     plan: Plan,
@@ -45,9 +51,9 @@ fn on_rows(
     mask: u64,
     faults: &[u8],
     place: &mut [u64],
-) -> System
+) -> Stepped
     requires { ⌜ (accepted plan ≡ true) × (period ≡ periodOf plan) × (length (now sensors) ≡ plan .sensors) × (length (now faults) ≡ faultsSize (sizesOf plan)) × (length (now place) ≡ plan .actuators) ⌝ }
-    ensures { λ r. ⌜ (r ≡ systemAfter plan system (now (sensors .entry)) mask (now (faults .entry))) × (now (place .exit) ≡ placeAfter plan system (now (sensors .entry)) mask (now (faults .entry)) (now (place .entry))) ⌝ }
+    ensures { λ r. ⌜ (r .system ≡ systemAfter plan system (now (sensors .entry)) mask (now (faults .entry))) × (r .agreement ≡ frameAgreement plan system (now (sensors .entry)) mask (now (faults .entry))) × (now (place .exit) ≡ placeAfter plan system (now (sensors .entry)) mask (now (faults .entry)) (now (place .entry))) ⌝ }
 {
     let s = plan::sizes_with(plan, period);
     let mut good = system.good;
@@ -55,7 +61,7 @@ fn on_rows(
     let mut cells = [0u64; rows::step::WORDS];
     rows::step::unpack(system, &mut counters, &mut cells);
     let cams = cam::table();
-    row_frame::step::frame(
+    let agreement = row_frame::step::frame(
         plan,
         s,
         1,
@@ -68,7 +74,11 @@ fn on_rows(
         &mut good,
         place,
     );
-    rows::step::pack(&counters, &cells, good)
+    let after = rows::step::pack(&counters, &cells, good);
+    Stepped {
+        system: after,
+        agreement,
+    }
 }
 
 pub fn frame(
@@ -86,6 +96,7 @@ pub fn frame(
         return Framed {
             answer: Answer::InvalidPlan,
             system,
+            agreement: 0,
         };
     }
     let nodes = plan.nodes;
@@ -93,18 +104,22 @@ pub fn frame(
         return Framed {
             answer: Answer::MaskOrCount,
             system,
+            agreement: 0,
         };
     }
     if !lengths_ok(plan, sensors.len(), faults.len(), place.len()) {
         return Framed {
             answer: Answer::WrongLength,
             system,
+            agreement: 0,
         };
     }
-    let next = on_rows(plan, period, system, sensors, mask, faults, place);
+    let stepped = on_rows(plan, period, system, sensors, mask, faults, place);
+    let next = stepped.system;
     Framed {
         answer: Answer::Done,
         system: next,
+        agreement: stepped.agreement,
     }
 }
 

@@ -1,7 +1,7 @@
 -- A line on rows: its frame from what the steps on rows give, and what it makes of a record.
 use mathlib.Core.Path.{_≡_, refl, sym, ap, _∙_, subst}
 use mathlib.Core.Bool.{true, false}
-use mathlib.Core.List.{List, _∷_}
+use mathlib.Core.List.{List, [], _∷_, _++_}
 use mathlib.Core.Option.{Option, none, some}
 use Prim.Native.Nat.{ℕ, _+_, _-_, _≤_, _<_}
 use native.Mathlib.Omega.{arith}
@@ -19,7 +19,7 @@ use Rattle.memory.specs.declared.Memory.{Memory}
 use Rattle.system.specs.declared.System.{System}
 use Rattle.system.specs.Counts.{isWorking}
 use Rattle.system.specs.Fault.{faultSize, faultsSize, faultAt}
-use Rattle.system.specs.Frame.{systemAfter, placeAfter}
+use Rattle.system.specs.Frame.{systemAfter, placeAfter, frameAgreement}
 use Rattle.system.proofs.FaultsOfBadLaws.{faults-of-bad}
 use Rattle.faults.specs.Code.{BadHold}
 use Rattle.faults.proofs.LayoutLaws.{held-fills}
@@ -29,7 +29,7 @@ use Rattle.lines.specs.declared.step.Stepped.{Stepped}
 use Rattle.lines.specs.declared.step.LineRead.{LineRead}
 use Rattle.lines.specs.declared.step.LineRead.the-variants.{Whole}
 use Rattle.lines.specs.Line.{printedWidths}
-use Rattle.lines.specs.Listing.{lineNumbers, faultBytes, systemNext, singleAfter, planeValues, working, equal, frameLine}
+use Rattle.lines.specs.Listing.{lineNumbers, faultBytes, systemNext, singleAfter, planeValues, agreement, working, equal, frameLine}
 use Rattle.lines.specs.Code.{stepAnswer, stepPlace, OfLine, LineMade, lineRead}
 use Rattle.lines.proofs.StepLaws.{line-early, line-in-time, planes-lent, Within, numbers-within, take-fits}
 
@@ -56,6 +56,10 @@ module _ (p : Plan) (s : Sizes) (e : s ≡ sizesOf p) (sys : System) (vs : List 
     planes-are : placeAfter p sys vs mask faults (replicate (p .actuators) 0) ≡ planeValues p sys numbers
     unfolding planeValues faultBytes
     planes-are = faults-of-bad p sys vs mask faults (replicate (faultsSize (sizesOf p)) x) same-bytes .1 (replicate (p .actuators) 0)
+
+    pub agreement-is : {r : ℕ} → r ≡ frameAgreement p sys vs mask faults → r ≡ agreement p sys numbers
+    unfolding agreement faultBytes
+    agreement-is h = h ∙ faults-of-bad p sys vs mask faults (replicate (faultsSize (sizesOf p)) x) same-bytes .2
 
     -- the plane values in the front of their array
     pub planes-read :
@@ -88,14 +92,15 @@ module _ (p : Plan) (s : Sizes) (e : s ≡ sizesOf p) (sys : System) (vs : List 
       ∙ equal-is p (systemNext p sys numbers) (singleAfter p single numbers) counters cells good (p .nodes) h f refl few
 
   pub line-is :
-      (single : Memory) (frame : ℕ) {w g : ℕ} {out us : List ℕ} →
-      out ≡ row (printedWidths (s .actuators)) (frame ∷ w ∷ g ∷ us) →
+      (single : Memory) (frame : ℕ) {w g a : ℕ} {out us : List ℕ} →
+      out ≡ row (printedWidths (s .actuators)) (frame ∷ w ∷ g ∷ (us ++ (a ∷ []))) →
       w ≡ working p sys numbers →
       g ≡ equal p (systemNext p sys numbers) (singleAfter p single numbers) →
       us ≡ planeValues p sys numbers →
+      a ≡ agreement p sys numbers →
       out ≡ frameLine p sys single frame numbers
   unfolding frameLine
-  line-is single frame o f g h = o ∙ rw (e, f, g, h)
+  line-is single frame o f g h k = o ∙ rw (e, f, g, h, k)
 
 -- the numbers handed out with the period
 pub sizes-are : (p : Plan) {s : Sizes} {period : ℕ} → s ≡ sizesBy p period → period ≡ periodOf p → s ≡ sizesOf p

@@ -10,7 +10,7 @@ use lib.Dec.{leb, ltb}
 use lib.ListN.{length, take, drop, replicate, length-replicate, length-drop}
 use lib.Seq.{length-take-le, take-nil, take-all, take-at}
 use borrow.Author.Tests.{le-ltb, lt-ltb, ltb-true, ltb-false, leb-true, leb-false}
-use borrow.Rule.Slice.PartMut.{putMid}
+use borrow.Rule.Slice.PartMut.{putMid, same-len-mid}
 use Rattle.array.specs.Index.{fill}
 use Rattle.array.proofs.TestLaws.{split, clash, and-right}
 use Rattle.array.proofs.PlacesLaws.{fill-length}
@@ -59,6 +59,10 @@ first-line l size e = rw e (part-taken l 0 size (omega arith))
 -- a front that is lent
 pub front-length : (out : List ℕ) {n m : ℕ} → n ≡ m → m ≤ length out → length (take (n - 0) out) ≡ m
 front-length out {n} {m} e l = let z : n - 0 ≡ m = omega (arith, e) in rw z (length-take-le m out l)
+
+-- what is put back into the front has room there
+pub front-fits : (zeros place : List ℕ) {n : ℕ} → length place ≡ length (take (n - 0) (drop 0 zeros)) → n ≤ length zeros → n ≤ length (putMid 0 (n - 0) zeros place)
+front-fits zeros place {n} e l = omega (arith, same-len-mid 0 (n - 0) zeros place e)
 
 -- ---- the frame of a line
 

@@ -5,7 +5,7 @@ use Prim.Native.Nat.{ℕ, zero, suc, _+_, _-_, _*_, _≤_}
 use native.Mathlib.Omega.{arith}
 use native.Mathlib.Numerals.{add-one}
 use lib.ListN.{length, getD, set, take, drop, replicate, length-append, length-set, drop-of-length-le}
-use lib.Seq.{getD-take, set-split}
+use lib.Seq.{getD-take, set-split, length-take-le}
 use borrow.Rule.Slice.PartMut.{putMid}
 use Rattle.array.specs.Index.{joined}
 use Rattle.array.proofs.PlacesLaws.{joined-same, joined-more}
@@ -21,8 +21,8 @@ use Rattle.column.proofs.BufferLaws.{laid-none, lay}
 use Rattle.plan.specs.declared.Plan.{Plan}
 use Rattle.memory.specs.declared.Memory.{Memory}
 use Rattle.system.specs.declared.System.{System}
-use Rattle.lines.specs.Listing.{systemNext, planeValues, working, singleAfter, equal, frameLine}
-use Rattle.lines.specs.Line.{patternWidth, planeValuesAt, printedWidths, printedSize, refusalLine, refusalSize}
+use Rattle.lines.specs.Listing.{systemNext, planeValues, agreement, working, singleAfter, equal, frameLine}
+use Rattle.lines.specs.Line.{patternWidth, planeValuesAt, agreementAt, agreementWidth, printedWidths, printedSize, refusalLine, refusalSize}
 
 -- ---- a column at a place
 
@@ -59,13 +59,23 @@ module _ (v : ℕ → ℕ) where
         f ∙ placed-next s planeValuesAt (planeColumns n) xs (column patternWidth (v n)) (planeValuesAt + patternWidth * n) e (omega (arith, columns-length n)) l
         ∙ ap (placed s planeValuesAt) (sym (joined-more (λ a. column patternWidth (v a)) n))
 
-    -- and the line feed
-    pub columns-ended :
-        printedSize n ≤ length s →
-        set xs (planeValuesAt + patternWidth * n) 10 ≡ placed s planeValuesAt (planeColumns n ++ (10 ∷ []))
-    columns-ended l =
-        set-split xs (planeValuesAt + patternWidth * n) 10 (omega (arith, columns-size (omega arith)))
-        ∙ rw (← add-one (planeValuesAt + patternWidth * n)) (placed-next s planeValuesAt (planeColumns n) xs (10 ∷ []) (planeValuesAt + patternWidth * n) e (omega (arith, columns-length n)) (omega arith))
+    -- the agreement behind them, and the line feed
+    module _ (x : ℕ) {ys : List ℕ} (f : ys ≡ placed xs (agreementAt n) (column agreementWidth x)) (l : printedSize n ≤ length s) where
+      with-agreement : ys ≡ placed s planeValuesAt (planeColumns n ++ column agreementWidth x)
+      with-agreement = f ∙ placed-next s planeValuesAt (planeColumns n) xs (column agreementWidth x) (agreementAt n) e (omega (arith, columns-length n)) (omega arith)
+
+      long : length (planeColumns n ++ column agreementWidth x) ≡ patternWidth * n + agreementWidth
+      long = length-append (planeColumns n) (column agreementWidth x) ∙ rw (columns-length n, column-length agreementWidth x)
+
+      columns-kept : length ys ≡ length s
+      columns-kept = ap length with-agreement ∙ placed-length s planeValuesAt (planeColumns n ++ column agreementWidth x) (omega (arith, long))
+
+      pub columns-ended : set ys (agreementAt n + agreementWidth) 10 ≡ placed s planeValuesAt (planeColumns n ++ (column agreementWidth x ++ (10 ∷ [])))
+      columns-ended =
+          set-split ys (agreementAt n + agreementWidth) 10 (omega (arith, columns-kept))
+          ∙ rw (← add-one (agreementAt n + agreementWidth))
+          (placed-next s planeValuesAt (planeColumns n ++ column agreementWidth x) ys (10 ∷ []) (agreementAt n + agreementWidth) with-agreement (omega (arith, long)) (omega arith))
+          ∙ ap (placed s planeValuesAt) (append-assoc (planeColumns n) (column agreementWidth x) (10 ∷ []))
 
 -- ---- rows
 
@@ -74,33 +84,35 @@ unfolding joined
 joined-front f zero = sym (append-nil (f 0))
 joined-front f (suc n) = ap (λ (l : List ℕ). l ++ f (suc n)) (joined-front f n) ∙ append-assoc (f 0) (joined (λ k. f (suc k)) n) (f (suc n))
 
--- a row of equal widths
-row-of-columns : (n : ℕ) (vs : List ℕ) → row (replicate n patternWidth) vs ≡ planeColumns (λ a. getD vs a 0) n ++ (10 ∷ [])
+-- a row that begins with equal widths
+row-of-columns :
+    (n : ℕ) (ws vs us : List ℕ) → length vs ≡ n → row (replicate n patternWidth ++ ws) (vs ++ us) ≡ planeColumns (λ a. getD vs a 0) n ++ row ws us
 unfolding row joined
-row-of-columns zero vs = refl
-row-of-columns (suc n) [] = rw (joined-front (λ a. column patternWidth 0) n, append-assoc) (ap (λ (l : List ℕ). column patternWidth 0 ++ l) (row-of-columns n []))
-row-of-columns (suc n) (v ∷ vs) =
+row-of-columns zero ws [] us e = refl
+row-of-columns zero ws (v ∷ vs) us e = absurd (omega arith)
+row-of-columns (suc n) ws [] us e = absurd (omega arith)
+row-of-columns (suc n) ws (v ∷ vs) us e =
     rw (joined-front (λ a. column patternWidth (getD (v ∷ vs) a 0)) n, append-assoc)
-    (ap (λ (l : List ℕ). column patternWidth v ++ l) (row-of-columns n vs))
+    (ap (λ (l : List ℕ). column patternWidth v ++ l) (row-of-columns n ws vs us (omega arith)))
 
 -- what fills its place
 pub placed-whole : (s t : List ℕ) → length t ≡ length s → placed s 0 t ≡ t
 placed-whole s t e = ap (λ (l : List ℕ). t ++ l) (drop-of-length-le s {i = 0 + length t} (omega arith)) ∙ append-nil t
 
 -- the line of a frame, in a place of its size
-module _ (s : List ℕ) (n : ℕ) (size : length s ≡ printedSize n) (f w g : ℕ) (vs : List ℕ) where
+module _ (s : List ℕ) (n : ℕ) (size : length s ≡ printedSize n) (f w g : ℕ) (vs : List ℕ) (fits : n ≤ length vs) (x : ℕ) where
   abbrev frameColumns : List ℕ
-  frameColumns = ((column 8 f ++ column 4 w) ++ column 4 g) ++ (planeColumns (λ k. getD vs k 0) n ++ (10 ∷ []))
+  frameColumns = ((column 8 f ++ column 4 w) ++ column 4 g) ++ (planeColumns (λ k. getD vs k 0) n ++ (column agreementWidth x ++ (10 ∷ [])))
 
   frame-size : length frameColumns ≡ length s
   frame-size =
-      rw (length-append, length-append, length-append, length-append, column-length 8 f, column-length 4 w, column-length 4 g, columns-length (λ k. getD vs k 0) n, size)
+      rw (length-append, length-append, length-append, length-append, length-append, column-length 8 f, column-length 4 w, column-length 4 g, columns-length (λ k. getD vs k 0) n, column-length agreementWidth x, size)
       (omega arith)
 
-  frame-columns : frameColumns ≡ row (printedWidths n) (f ∷ w ∷ g ∷ take n vs)
+  frame-columns : frameColumns ≡ row (printedWidths n) (f ∷ w ∷ g ∷ (take n vs ++ (x ∷ [])))
   unfolding row printedWidths
   frame-columns =
-      rw (row-of-columns n (take n vs), joined-same (λ a. column patternWidth (getD (take n vs) a 0)) (λ a. column patternWidth (getD vs a 0)) n (λ i l. ap (column patternWidth) (getD-take n vs i 0 l)))
+      rw (row-of-columns n (agreementWidth ∷ []) (take n vs) (x ∷ []) (length-take-le n vs fits), joined-same (λ a. column patternWidth (getD (take n vs) a 0)) (λ a. column patternWidth (getD vs a 0)) n (λ i l. ap (column patternWidth) (getD-take n vs i 0 l)))
       (simp append-assoc)
 
   pub frame-row :
@@ -108,18 +120,18 @@ module _ (s : List ℕ) (n : ℕ) (size : length s ≡ printedSize n) (f w g : �
       a ≡ placed s 0 (column 8 f) →
       b ≡ placed a 8 (column 4 w) →
       c ≡ placed b 12 (column 4 g) →
-      d ≡ placed c planeValuesAt (planeColumns (λ k. getD vs k 0) n ++ (10 ∷ [])) →
-      d ≡ row (printedWidths n) (f ∷ w ∷ g ∷ take n vs)
-  frame-row {a} {b} {c} {d} x y z u =
+      d ≡ placed c planeValuesAt (planeColumns (λ k. getD vs k 0) n ++ (column agreementWidth x ++ (10 ∷ []))) →
+      d ≡ row (printedWidths n) (f ∷ w ∷ g ∷ (take n vs ++ (x ∷ [])))
+  frame-row {a} {b} {c} {d} o y z u =
       let t1 : List ℕ = column 8 f in
       let t2 : List ℕ = t1 ++ column 4 w in
       let t3 : List ℕ = t2 ++ column 4 g in
       let l1 : length t1 ≡ 8 = column-length 8 f in
       let l2 : length t2 ≡ 12 = length-append t1 (column 4 w) ∙ rw (l1, column-length 4 w) in
       let l3 : length t3 ≡ planeValuesAt = length-append t2 (column 4 g) ∙ rw (l2, column-length 4 g) in
-      let y2 : b ≡ placed s 0 t2 = y ∙ placed-next s 0 t1 a (column 4 w) 8 x (omega arith) (omega arith) in
+      let y2 : b ≡ placed s 0 t2 = y ∙ placed-next s 0 t1 a (column 4 w) 8 o (omega arith) (omega arith) in
       let z2 : c ≡ placed s 0 t3 = z ∙ placed-next s 0 t2 b (column 4 g) 12 y2 (omega arith) (omega arith) in
-      u ∙ placed-next s 0 t3 c (planeColumns (λ k. getD vs k 0) n ++ (10 ∷ [])) planeValuesAt z2 (omega arith) (omega arith)
+      u ∙ placed-next s 0 t3 c (planeColumns (λ k. getD vs k 0) n ++ (column agreementWidth x ++ (10 ∷ []))) planeValuesAt z2 (omega arith) (omega arith)
       ∙ placed-whole s frameColumns frame-size
       ∙ frame-columns
 
@@ -152,8 +164,13 @@ unfolding total
 total-of-columns zero = refl
 total-of-columns (suc n) = rw (total-of-columns n) (omega arith)
 
+total-of-printed : (n : ℕ) → total (replicate n patternWidth ++ (agreementWidth ∷ [])) ≡ patternWidth * n + agreementWidth
+unfolding total
+total-of-printed zero = refl
+total-of-printed (suc n) = rw (total-of-printed n) (omega arith)
+
 pub frame-length : (p : Plan) (sys : System) (single : Memory) (frame : ℕ) (l : List ℕ) → length (frameLine p sys single frame l) ≡ printedSize (p .actuators)
 unfolding frameLine printedWidths total
 frame-length p sys single frame l =
-    row-length (printedWidths (p .actuators)) (frame ∷ working p sys l ∷ equal p (systemNext p sys l) (singleAfter p single l) ∷ planeValues p sys l)
-    ∙ rw (total-of-columns (p .actuators)) (omega arith)
+    row-length (printedWidths (p .actuators)) (frame ∷ working p sys l ∷ equal p (systemNext p sys l) (singleAfter p single l) ∷ (planeValues p sys l ++ (agreement p sys l ∷ [])))
+    ∙ rw (total-of-printed (p .actuators)) (omega arith)

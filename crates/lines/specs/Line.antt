@@ -1,7 +1,7 @@
 -- Document 01, 'The run program': the lines of a run and of its listing. "A run line, its columns formed as a plan's: mask (width 4), fill (4), S
 -- patterns (20 each), line feed".
 use mathlib.Core.Bool.{cond, _&&_}
-use mathlib.Core.List.{List, [], _∷_}
+use mathlib.Core.List.{List, [], _∷_, _++_}
 use mathlib.Core.Option.{Option, none, some}
 use Prim.Native.Nat.{ℕ, _+_, _*_, _^_}
 use lib.Dec.{leb, ltb}
@@ -52,17 +52,23 @@ unfoldable pub runNumbers : ℕ → ℕ → List ℕ → Option (List ℕ)
 runNumbers n s line = inLimits n (numbersShown (runWidths s) line)
 
 -- ---- a line of the listing, with a actuators: "frame number from 0 (width 8), nodes working in it (4), nodes whose memory then equals the single
--- controller's (4), A plane values (20 each)"
+-- controller's (4), A plane values (20 each)". Request 2026-02: "The run listing gets a last column of width 4"
+
+abbrev pub agreementWidth : ℕ
+agreementWidth = 4
 
 unfoldable pub printedWidths : ℕ → List ℕ
-printedWidths a = 8 ∷ 4 ∷ 4 ∷ replicate a patternWidth
+printedWidths a = 8 ∷ 4 ∷ 4 ∷ (replicate a patternWidth ++ (agreementWidth ∷ []))
 
--- where the plane values begin
+-- where the plane values begin, and where the agreement stands behind them
 abbrev pub planeValuesAt : ℕ
 planeValuesAt = 16
 
+abbrev pub agreementAt : ℕ → ℕ
+agreementAt a = planeValuesAt + patternWidth * a
+
 abbrev pub printedSize : ℕ → ℕ
-printedSize a = planeValuesAt + patternWidth * a + 1
+printedSize a = agreementAt a + agreementWidth + 1
 
 -- "A refusal prints number (4) and line (8)"
 unfoldable pub refusalLine : Answer → List ℕ

@@ -21,7 +21,7 @@ use Rattle.system.specs.declared.System.{System}
 use Rattle.system.specs.System.{powerOn}
 use Rattle.system.specs.Fault.{faultsSize}
 use Rattle.system.specs.Counts.{isWorking}
-use Rattle.system.specs.Frame.{memoryOf, systemAfter, placeAfter, sameMemory}
+use Rattle.system.specs.Frame.{memoryOf, systemAfter, placeAfter, frameAgreement, sameMemory}
 use Rattle.lines.specs.Line.{runLineSize, maskIn, fillIn, patternsIn, runNumbers, printedWidths, refusalLine}
 
 -- "10: .. or line 100,001"
@@ -54,6 +54,9 @@ module _ (p : Plan) (sys : System) (l : List ℕ) where
   unfoldable pub planeValues : List ℕ
   planeValues = placeAfter p sys (patternsIn l) (maskIn l) faultBytes (replicate (p .actuators) 0)
 
+  unfoldable pub agreement : ℕ
+  agreement = frameAgreement p sys (patternsIn l) (maskIn l) faultBytes
+
   unfoldable pub working : ℕ
   working = howMany (isWorking (period p) (maskIn l) (sys .good)) (p .nodes)
 
@@ -68,7 +71,7 @@ equal p sys single = howMany (λ i. sameMemory p (memoryOf sys i) single) (p .no
 unfoldable pub frameLine : Plan → System → Memory → ℕ → List ℕ → List ℕ
 frameLine p sys single frame l =
     row (printedWidths (p .actuators))
-    (frame ∷ working p sys l ∷ equal p (systemNext p sys l) (singleAfter p single l) ∷ planeValues p sys l)
+    (frame ∷ working p sys l ∷ equal p (systemNext p sys l) (singleAfter p single l) ∷ (planeValues p sys l ++ (agreement p sys l ∷ [])))
 
 -- ---- a run, or what is left of one, whose first frame has the number `first` and finds this record and this single controller
 

@@ -18,7 +18,7 @@ ghost use Rattle.cam.specs.Cam.{camTable};
 ghost use Rattle.system.specs.Fault.{faultsSize};
 ghost use Rattle.faults.specs.Code.{Parts, Held, BadHold};
 ghost use Rattle.rows.specs.Code.{rowCount, wordCount, memoryIn, Rows};
-ghost use Rattle.lines.specs.Line.{runLineSize, printedWidths, printedSize, patternWidth, sensorsAt, runNumbers, planeValuesAt, refusalLine, refusalSize};
+ghost use Rattle.lines.specs.Line.{runLineSize, printedWidths, printedSize, patternWidth, sensorsAt, runNumbers, planeValuesAt, agreementWidth, refusalLine, refusalSize};
 ghost use Rattle.lines.specs.Listing.{mostRunLines, lineNumbers, systemNext, singleAfter, frameLine};
 ghost use Rattle.lines.specs.Code.{blockLines, stepAnswer, stepPlace, OfLine, LineMade, printedWith, linesAnswer, linesPlace, ifRead, lineRead};
 use super::Printed;
@@ -138,17 +138,19 @@ fn put(out: &mut [u8], at: usize, width: usize, v: u64)
     column::write(&mut out[at..at + width], v);
 }
 
-// The plane values, and the line feed.
-fn put_plane_values(out: &mut [u8], values: &[u64; Plan::ACTUATORS], count: usize)
+// The plane values, the agreement, and the line feed.
+fn put_values(out: &mut [u8], values: &[u64; Plan::ACTUATORS], count: usize, agreement: usize)
     requires { ⌜ (count ≤ mostActuators) × (printedSize count ≤ length (now out)) ⌝ }
-    ensures { λ _. ⌜ now (out .exit) ≡ placed (now (out .entry)) planeValuesAt (joined (λ a. column patternWidth (getD (now (values .entry)) a 0)) count ++ (10 ∷ [])) ⌝ }
+    ensures { λ _. ⌜ now (out .exit) ≡ placed (now (out .entry)) planeValuesAt (joined (λ a. column patternWidth (getD (now (values .entry)) a 0)) count ++ (column agreementWidth agreement ++ (10 ∷ []))) ⌝ }
 {
     let mut a: usize = 0;
     while a < count {
         put(out, EQUAL + PATTERN * a, PATTERN, values[a]);
         a += 1;
     }
-    out[EQUAL + PATTERN * count] = b'\n';
+    let at = EQUAL + PATTERN * count;
+    put(out, at, COUNT, agreement as u64);
+    out[at + COUNT] = b'\n';
 }
 
 // The line of a frame.
@@ -159,14 +161,15 @@ fn write_frame(
     equal: usize,
     values: &[u64; Plan::ACTUATORS],
     count: usize,
+    agreement: usize,
 )
-    requires { ⌜ (count ≤ mostActuators) × (length (now out) ≡ printedSize count) ⌝ }
-    ensures { λ _. ⌜ now (out .exit) ≡ row (printedWidths count) (frame ∷ working ∷ equal ∷ take count (now (values .entry))) ⌝ }
+    requires { ⌜ (count ≤ mostActuators) × (length (now out) ≡ printedSize count) × (count ≤ length (now values)) ⌝ }
+    ensures { λ _. ⌜ now (out .exit) ≡ row (printedWidths count) (frame ∷ working ∷ equal ∷ (take count (now (values .entry)) ++ (agreement ∷ []))) ⌝ }
 {
     put(out, 0, FRAME, frame as u64);
     put(out, FRAME, COUNT, working as u64);
     put(out, WORKING, COUNT, equal as u64);
-    put_plane_values(out, values, count);
+    put_values(out, values, count, agreement);
 }
 
 // The line of a refusal.
@@ -199,7 +202,7 @@ pub fn printed_size(actuators: usize) -> usize
     requires { ⌜ actuators ≤ mostActuators ⌝ }
     ensures { λ r. ⌜ r ≡ printedSize actuators ⌝ }
 {
-    EQUAL + PATTERN * actuators + 1
+    EQUAL + PATTERN * actuators + COUNT + 1
 }
 
 // Where the part of `size` from a place on ends, in bytes of a length.
@@ -251,7 +254,7 @@ fn finish_line(
     let actuators = s.actuators;
     let working = counts::step::working(good, nodes, s.period, mask);
     let mut values = [0u64; Plan::ACTUATORS];
-    row_frame::step::frame(
+    let agreement = row_frame::step::frame(
         plan,
         s,
         0,
@@ -265,7 +268,7 @@ fn finish_line(
         &mut values[0..actuators],
     );
     let equal = rows::step::equal(counters, cells, nodes, s.cells);
-    write_frame(out, frame, working, equal, &values, actuators);
+    write_frame(out, frame, working, equal, &values, actuators, agreement);
 }
 
 // What was read of a line, on rows: a frame and its line, or nothing where the line is refused. Each node's part of `faults` holds the byte that `held` has

@@ -8,8 +8,9 @@ ghost use Rattle.plan.specs.Limits.{mostNodes, mostFrames, mostCells};
 ghost use Rattle.plan.specs.Accepted.{accepted};
 ghost use Rattle.ballot.specs.Code.{Told};
 ghost use Rattle.memory.specs.Size.{counterSize, patternSize, cellAt, messageSize, binBytes, mailboxSize};
-ghost use Rattle.memory.specs.Node.{messageOf, counterFrom, cellFrom, voted as votedOf};
+ghost use Rattle.memory.specs.Node.{messageOf, counterFrom, cellFrom, voted as votedOf, voteAgreement};
 use memory::Memory;
+use memory::Vote;
 use plan::Plan;
 
 // ---- the message
@@ -103,35 +104,36 @@ pub fn vote_with(
     width: usize,
     memory: Memory,
     mailbox: &[u8],
-) -> Memory
+) -> Vote
     requires { ⌜ (nodes ≤ mostNodes) × (0 < frames) × (frames ≤ mostFrames) × (width ≤ mostCells) × (length (now mailbox) ≡ nodes * binBytes width) ⌝ }
-    ensures { λ r. ⌜ ((p : Plan) → p .voted ≡ now (voted .entry) → p .nodes ≡ nodes → p .frames ≡ frames → p .cells ≡ width → r ≡ votedOf p memory (now (mailbox .entry))) ⌝ }
+    ensures { λ r. ⌜ ((p : Plan) → p .voted ≡ now (voted .entry) → p .nodes ≡ nodes → p .frames ≡ frames → p .cells ≡ width → (r .memory ≡ votedOf p memory (now (mailbox .entry))) × (r .agreement ≡ voteAgreement p memory (now (mailbox .entry)))) ⌝ }
 {
     let bins = counters(mailbox, nodes, width);
-    let counter = ballot::step::or_own(
-        frames,
-        memory.counter,
-        ballot::step::majority(&bins, nodes, nodes),
-    );
+    let decided = ballot::step::majority(&bins, nodes, nodes);
+    let counter = ballot::step::or_own(frames, memory.counter, decided);
+    let mut agreement = ballot::step::agreement(&bins, nodes, decided);
     let frame = memory::step::frame_before(counter, frames);
     let mut cells = memory.cells;
     let mut c: usize = 0;
     while c < width {
         if plan::step::is_voted(voted, frame, c) {
             let values = cells_at(mailbox, nodes, width, c);
-            cells[c] = ballot::step::or_old(
-                ballot::step::majority(&values, nodes, nodes),
-                cells[c],
-            );
+            let v = ballot::step::majority(&values, nodes, nodes);
+            cells[c] = ballot::step::or_old(v, cells[c]);
+            agreement = ballot::step::min(agreement, ballot::step::agreement(&values, nodes, v));
         }
         c += 1;
     }
-    Memory { counter, cells }
+    let after = Memory { counter, cells };
+    Vote {
+        memory: after,
+        agreement,
+    }
 }
 
-pub fn vote(plan: Plan, memory: Memory, mailbox: &[u8]) -> Memory
+pub fn vote(plan: Plan, memory: Memory, mailbox: &[u8]) -> Vote
     requires { ⌜ (accepted plan ≡ true) × (length (now mailbox) ≡ mailboxSize plan) ⌝ }
-    ensures { λ r. ⌜ r ≡ votedOf plan memory (now (mailbox .entry)) ⌝ }
+    ensures { λ r. ⌜ (r .memory ≡ votedOf plan memory (now (mailbox .entry))) × (r .agreement ≡ voteAgreement plan memory (now (mailbox .entry))) ⌝ }
 {
     vote_with(
         &plan.voted,

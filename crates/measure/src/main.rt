@@ -84,6 +84,7 @@ fn node_often(plan: Plan, times: u64, sensors: &mut [u64], bins: &mut [u8], out:
     let first = node::compute(plan, start, sensors);
     let mut m = first.memory;
     fill_mailbox(plan, m, bins, out.len());
+    let mut agreed: u64 = 0;
     let mut k: u64 = 0;
     while k < times {
         sensors[0] = k;
@@ -92,9 +93,10 @@ fn node_often(plan: Plan, times: u64, sensors: &mut [u64], bins: &mut [u8], out:
         node::message(plan, next, out);
         let voted = node::vote(plan, next, bins);
         m = voted.memory;
+        agreed = voted.agreement as u64;
         k += 1;
     }
-    m.cells[0] % 1000
+    (m.cells[0] % 1000) ^ agreed
 }
 
 fn frame_often(
@@ -113,14 +115,16 @@ fn frame_often(
     }
     let started = System::power_on(plan);
     let mut system = started.system;
+    let mut agreed: u64 = 0;
     let mut k: u64 = 0;
     while k < times {
         sensors[0] = k;
         let framed = frame::frame(plan, system, sensors, mask, faults, place);
         system = framed.system;
+        agreed = framed.agreement as u64;
         k += 1;
     }
-    place[0] % 1000
+    (place[0] % 1000) ^ agreed
 }
 
 // The buffers that a plan within the limits wants.

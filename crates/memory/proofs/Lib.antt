@@ -2,3 +2,4 @@ pub mod StepLaws
 pub mod MessageLaws
 pub mod NodeLaws
 pub mod VoteLaws
+pub mod AgreementLaws

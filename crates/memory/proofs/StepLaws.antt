@@ -3,7 +3,7 @@ use mathlib.Core.Path.{_≡_, refl, sym, _∙_, subst}
 use mathlib.Core.Bool.{Bool, true, false, cond}
 use mathlib.Core.List.{List, [], _++_, append-assoc, append-nil}
 use mathlib.Core.Option.{Option, Option·getD}
-use Prim.Native.Nat.{ℕ, zero, suc, _+_, _-_, _*_, _%_, _≤_, _<_}
+use Prim.Native.Nat.{ℕ, zero, suc, _+_, _-_, _*_, _%_, _≤_, _<_, min}
 use native.Mathlib.Omega.{arith}
 use native.Mathlib.Nat.{mul-le-mul-right, suc-mul}
 use native.Mathlib.Numerals.{add-one}
@@ -12,9 +12,10 @@ use lib.ListN.{length, getD, set, take, drop, length-append}
 use lib.Seq.{take-at, take-all, length-take-le}
 use borrow.Author.Tests.{eqb-true, eqb-false, eq-eqb, ne-eqb}
 use Rattle.array.proofs.TestLaws.{split}
-use Rattle.array.specs.Index.{fill, joined}
+use Rattle.array.specs.Index.{fill, joined, lesser, least}
 use Rattle.array.specs.Word.{bytes}
 use Rattle.array.proofs.LoopLaws.{stored-next}
+use Rattle.array.proofs.LeastLaws.{least-taken, least-left}
 use Rattle.array.proofs.PlacesLaws.{fill-out, fill-kept, joined-none, joined-more}
 use Rattle.array.proofs.WordLaws.{bytes-length}
 use Rattle.plan.specs.declared.Plan.{Plan}
@@ -24,10 +25,11 @@ use Rattle.plan.proofs.AcceptedLaws.{Shape}
 use Rattle.memory.specs.declared.Memory.{Memory}
 use Rattle.memory.specs.Size.{counterSize, patternSize, cellAt, binSize}
 use Rattle.task.specs.Task.{opValue, runTask, runTasks}
-use Rattle.ballot.specs.Majority.{majority, orOwn}
+use Rattle.ballot.specs.Majority.{backing, majority, agreement, orOwn}
 use Rattle.ballot.specs.Code.{packed, Told}
-use Rattle.memory.specs.Node.{computed, before, sentCell, messageOf, counterFrom, cellFrom, counterIn, cellIn, votedCounter, votedCell, voted, setpoint}
+use Rattle.memory.specs.Node.{computed, before, sentCell, messageOf, counterFrom, cellFrom, counterIn, cellIn, votedCounter, votedCell, voted, voteAgreement, setpoint}
 use Rattle.ballot.proofs.BinLaws.{told-majority}
+use Rattle.ballot.proofs.AgreementLaws.{told-agreement}
 use Rattle.task.proofs.TaskLaws.{runTask-elsewhere}
 
 -- ---- the tasks of a frame
@@ -170,6 +172,46 @@ module _ (p : Plan) (box : List ℕ) where
       let f : ℕ → ℕ = cellAfter p cells box g in
       stored-next f c cells n (k ∙ rw (v, h, told-majority _ (p .nodes) values t, n, fill-out f c cells c 0 (omega arith)))
 
+-- the agreement on the cells: what is counted for a cell is its agreement, and the least so far
+abbrev pub agreedTo : Plan → List ℕ → ℕ → ℕ → ℕ → ℕ
+agreedTo p box g first c = lesser first (least (votedIn p g) (λ d. agreement (cellIn p box d) (p .nodes)) c)
+
+module _ (p : Plan) (box : List ℕ) where
+  pub counter-agreed :
+      {r : ℕ} {o : Option ℕ} (values : List ℕ) →
+      Told (λ j. counterFrom box (j * binSize p)) (p .nodes) values →
+      o ≡ majority (packed values (p .nodes)) (p .nodes) →
+      r ≡ backing (packed values (p .nodes)) (p .nodes) o →
+      r ≡ agreement (counterIn p box) (p .nodes)
+  unfolding counterIn
+  counter-agreed values t h k = told-agreement _ (p .nodes) values t h k
+
+  module _ (g first c : ℕ) {now : ℕ} (h : now ≡ agreedTo p box g first c) where
+    pub cell-agreed :
+        {r x : ℕ} {o : Option ℕ} (values : List ℕ) →
+        getD (p .voted) (mostCells * g + c) false ≡ true →
+        Told (λ j. cellFrom box c (j * binSize p)) (p .nodes) values →
+        o ≡ majority (packed values (p .nodes)) (p .nodes) →
+        x ≡ backing (packed values (p .nodes)) (p .nodes) o →
+        r ≡ min now x →
+        r ≡ agreedTo p box g first (c + 1)
+    unfolding cellIn votedIn
+    cell-agreed values v t o k e = e ∙ least-taken (votedIn p g) _ first c h v (told-agreement _ (p .nodes) values t o k)
+
+    pub cell-unvoted : getD (p .voted) (mostCells * g + c) false ≡ false → now ≡ agreedTo p box g first (c + 1)
+    unfolding votedIn
+    cell-unvoted v = least-left (votedIn p g) _ first c h v
+
+  pub vote-agreed :
+      (m : Memory) {counter g first r : ℕ} →
+      counter ≡ votedCounter p m box →
+      g ≡ (counter + p .frames - 1) % p .frames →
+      first ≡ agreement (counterIn p box) (p .nodes) →
+      r ≡ agreedTo p box g first (p .cells) →
+      r ≡ voteAgreement p m box
+  unfolding voteAgreement before
+  vote-agreed m e h a k = k ∙ rw (h, e, a)
+
 pub cell-kept :
     {now : List ℕ} (p : Plan) (cells box : List ℕ) (g c : ℕ) →
     now ≡ fill (cellAfter p cells box g) c cells →
@@ -215,6 +257,10 @@ module _ (p : Plan) (m : Memory) {votes : List Bool} {frames cells : ℕ} (v : p
   pub voted-lent : {nodes : ℕ} (box : List ℕ) → p .nodes ≡ nodes → voted (lent nodes frames cells 0 votes []) m box ≡ voted p m box
   unfolding voted votedCounter votedCell counterIn cellIn before votedIn
   voted-lent box n = rw (← v, ← f, ← c, ← n)
+
+  pub agreement-lent : {nodes : ℕ} (box : List ℕ) → p .nodes ≡ nodes → voteAgreement (lent nodes frames cells 0 votes []) m box ≡ voteAgreement p m box
+  unfolding voteAgreement votedCounter counterIn cellIn before votedIn
+  agreement-lent box n = rw (← v, ← f, ← c, ← n)
 
 pub setpoint-lent :
     (p : Plan) (m : Memory) {table cells : List ℕ} →

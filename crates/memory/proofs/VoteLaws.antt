@@ -80,6 +80,14 @@ module _ (p : Plan) (m : Memory) (box : List ℕ) where
     vote-kept c t =
         split (ltb c (p .cells)) (λ l. vote-cell c (ltb-true _ _ l) ∙ rw t) (λ l. vote-past c (ltb-false _ _ l))
 
+-- ---- a mailbox in which k bins, or more, hold what one memory s sends
+
+pub record Holding (p : Plan) (box : List ℕ) (s : Memory) (k : ℕ) : Type 0 where
+  pub counter : k ≤ holders (counterIn p box) (p .nodes) (s .counter)
+  pub cell :
+      (c : ℕ) → c < p .cells → votedIn p (before p (s .counter)) c ≡ true →
+      k ≤ holders (cellIn p box c) (p .nodes) (getD (s .cells) c 0)
+
 -- ---- a mailbox in which more than half of the bins are made of the message of one memory s
 
 pub record MostHold (p : Plan) (box : List ℕ) (s : Memory) : Type 0 where
@@ -91,7 +99,7 @@ pub record MostHold (p : Plan) (box : List ℕ) (s : Memory) : Type 0 where
 module _
     (p : Plan) (shape : Shape p) (s : Memory) (small : s .counter < p .frames) (bounded : Bounded (s .cells))
     (f : ℕ → List ℕ) (sizes : (j : ℕ) → length (f j) ≡ binSize p)
-    (work : ℕ → Bool) (half : p .nodes < 2 * howMany work (p .nodes))
+    (work : ℕ → Bool)
     (sends : (j : ℕ) → j < p .nodes → work j ≡ true → f j ≡ binOf (messageOf p s))
   where
     abbrev box : List ℕ
@@ -108,12 +116,15 @@ module _
         cellIn-bin p f (p .nodes) sizes j l c cl
         ∙ rw (sends j l w, cellFrom-message p s c cl (bounded c), sentCell-voted p s c v)
 
-    pub most-of-messages : MostHold p (joined f (p .nodes)) s
-    most-of-messages =
+    pub hold-of-messages : Holding p (joined f (p .nodes)) s (howMany work (p .nodes))
+    hold-of-messages =
         record {
-          counter = omega (arith, half, holders-least work (counterIn p box) (p .nodes) (s .counter) works-counter);
-          cell = λ c cl v. omega (arith, half, holders-least work (cellIn p box c) (p .nodes) (getD (s .cells) c 0) (works-cell c cl v));
+          counter = holders-least work (counterIn p box) (p .nodes) (s .counter) works-counter;
+          cell = λ c cl v. holders-least work (cellIn p box c) (p .nodes) (getD (s .cells) c 0) (works-cell c cl v);
         }
+
+pub most-of-holding : (p : Plan) (box : List ℕ) (s : Memory) (k : ℕ) → p .nodes < 2 * k → Holding p box s k → MostHold p box s
+most-of-holding p box s k half h = record { counter = omega (arith, half, h .counter); cell = λ c cl v. omega (arith, half, h .cell c cl v) }
 
 module _ (p : Plan) (box : List ℕ) (s : Memory) (most : MostHold p box s) (l : s .counter < p .frames) where
   -- a memory m votes on it

@@ -4,7 +4,7 @@ use mathlib.Core.List.{List, _++_}
 use mathlib.Core.Option.{Option, some, Option·getD}
 use Prim.Native.Nat.{ℕ, _+_, _-_, _%_}
 use lib.ListN.{getD, replicate}
-use Rattle.array.specs.Index.{fill, joined}
+use Rattle.array.specs.Index.{fill, joined, lesser, least}
 use Rattle.array.specs.Word.{be, bytes}
 use Rattle.plan.specs.declared.Plan.{Plan}
 use Rattle.plan.specs.Limits.{mostCells}
@@ -12,7 +12,7 @@ use Rattle.plan.specs.Known.{votedIn}
 use Rattle.memory.specs.declared.Memory.{Memory}
 use Rattle.memory.specs.Size.{counterSize, patternSize, cellAt, binAt}
 use Rattle.task.specs.Task.{runTasks}
-use Rattle.ballot.specs.Majority.{majority, orOwn}
+use Rattle.ballot.specs.Majority.{majority, agreement, orOwn}
 
 abbrev pub zeroMemory : Memory
 zeroMemory = record { counter = 0; cells = replicate mostCells 0 }
@@ -76,6 +76,12 @@ voted p m box =
       counter = votedCounter p m box;
       cells = fill (votedCell p m box (before p (votedCounter p m box))) (p .cells) (m .cells);
     }
+
+-- Request 2026-02: "A node's vote gives the least such count over its counter and voted cells": the cells voted in g'
+unfoldable pub voteAgreement : Plan → Memory → List ℕ → ℕ
+voteAgreement p m box =
+    lesser (agreement (counterIn p box) (p .nodes))
+    (least (votedIn p (before p (votedCounter p m box))) (λ c. agreement (cellIn p box c) (p .nodes)) (p .cells))
 
 -- "Sync: setpoint i is the pattern of the cell of actuator i."
 unfoldable pub setpoint : Plan → Memory → ℕ → ℕ

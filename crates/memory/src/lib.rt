@@ -18,6 +18,19 @@ pub struct Outcome {
     pub memory: Memory,
 }
 
+// What a vote leaves: the memory, and the vote's agreement.
+pub struct Vote {
+    pub memory: Memory,
+    pub agreement: usize,
+}
+
+// What a vote call gives.
+pub struct VoteOutcome {
+    pub answer: Answer,
+    pub memory: Memory,
+    pub agreement: usize,
+}
+
 pub fn zero_memory() -> Memory
     ensures { λ r. ⌜ r ≡ zeroMemory ⌝ }
 {

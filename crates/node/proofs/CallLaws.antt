@@ -12,10 +12,16 @@ use Rattle.plan.specs.declared.Plan.{Plan}
 use Rattle.plan.specs.Accepted.{accepted}
 use Rattle.memory.specs.declared.Memory.{Memory}
 use Rattle.memory.specs.declared.Outcome.{Outcome}
+use Rattle.memory.specs.declared.VoteOutcome.{VoteOutcome}
 use Rattle.node.specs.Answers.{lengthTests, lengthChecked}
 
 pub outcome : {a b : Answer} {m n : Memory} → (a ≡ b) × (m ≡ n) → _≡_ {A = Outcome} (record { answer = a; memory = m }) (record { answer = b; memory = n })
 outcome e = λ i. record { answer = e .0 i; memory = e .1 i }
+
+pub vote-outcome :
+    {a b : Answer} {m n : Memory} {x y : ℕ} → (a ≡ b) × (m ≡ n) → x ≡ y →
+    _≡_ {A = VoteOutcome} (record { answer = a; memory = m; agreement = x }) (record { answer = b; memory = n; agreement = y })
+vote-outcome e h = λ i. record { answer = e .0 i; memory = e .1 i; agreement = h i }
 
 module _ {A : Type 0} (p : Plan) (has wanted : ℕ) (new old : A) where
   pub plan-refused : accepted p ≡ false → (InvalidPlan ≡ lengthChecked p has wanted) × (old ≡ ifPassed (lengthTests p has wanted) new old)

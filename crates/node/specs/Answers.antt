@@ -1,5 +1,5 @@
 -- What the calls on one node answer, refused or not: 7 before 8; a memory handed in, and a place lent, stay as they were beside a refusal,
--- and a new memory is all zero.
+-- a new memory is all zero, and so is an agreement.
 use mathlib.Core.List.{List, [], _∷_}
 use Prim.Native.Nat.{ℕ}
 use lib.Dec.{eqb}
@@ -12,8 +12,9 @@ use Rattle.plan.specs.Accepted.{accepted}
 use Rattle.plan_period.specs.Answers.{planTests, checked}
 use Rattle.memory.specs.declared.Memory.{Memory}
 use Rattle.memory.specs.declared.Outcome.{Outcome}
+use Rattle.memory.specs.declared.VoteOutcome.{VoteOutcome}
 use Rattle.memory.specs.Size.{messageSize, mailboxSize}
-use Rattle.memory.specs.Node.{zeroMemory, poweredOn, computed, messageOf, voted, setpoint}
+use Rattle.memory.specs.Node.{zeroMemory, poweredOn, computed, messageOf, voted, voteAgreement, setpoint}
 
 -- 7, then 8 for a length that is not the wanted one
 unfoldable pub lengthTests : Plan → ℕ → ℕ → List Test
@@ -32,11 +33,12 @@ computeAnswer p m sensors =
       memory = ifPassed (lengthTests p (length sensors) (p .sensors)) (computed p sensors m) m;
     }
 
-unfoldable pub voteAnswer : Plan → Memory → List ℕ → Outcome
+unfoldable pub voteAnswer : Plan → Memory → List ℕ → VoteOutcome
 voteAnswer p m box =
     record {
       answer = lengthChecked p (length box) (mailboxSize p);
       memory = ifPassed (lengthTests p (length box) (mailboxSize p)) (voted p m box) m;
+      agreement = ifPassed (lengthTests p (length box) (mailboxSize p)) (voteAgreement p m box) 0;
     }
 
 -- the place for a message, and the place for setpoints, after the call

@@ -6,6 +6,7 @@ ghost use Rattle.node.specs.Answers.{lengthChecked, powerOnAnswer, compu
 use answer::Answer;
 use memory::Memory;
 use memory::Outcome;
+use memory::VoteOutcome;
 use plan::Plan;
 
 pub fn power_on(plan: Plan) -> Outcome
@@ -62,27 +63,31 @@ pub fn message(plan: Plan, memory: Memory, out: &mut [u8]) -> Answer
     Answer::Done
 }
 
-pub fn vote(plan: Plan, memory: Memory, mailbox: &[u8]) -> Outcome
+pub fn vote(plan: Plan, memory: Memory, mailbox: &[u8]) -> VoteOutcome
     ensures { λ r. ⌜ r ≡ voteAnswer plan memory (now (mailbox .entry)) ⌝ }
 {
     if plan_period::accepted_period(plan) == 0 {
-        return Outcome {
+        return VoteOutcome {
             answer: Answer::InvalidPlan,
             memory,
+            agreement: 0,
         };
     }
     let nodes = plan.nodes;
     let cells = plan.cells;
     if mailbox.len() != memory::step::bin_at(nodes, cells) {
-        return Outcome {
+        return VoteOutcome {
             answer: Answer::WrongLength,
             memory,
+            agreement: 0,
         };
     }
-    let next = mailbox::step::vote(plan, memory, mailbox);
-    Outcome {
+    let vote = mailbox::step::vote(plan, memory, mailbox);
+    let next = vote.memory;
+    VoteOutcome {
         answer: Answer::Done,
         memory: next,
+        agreement: vote.agreement,
     }
 }
 

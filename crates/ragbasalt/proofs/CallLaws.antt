@@ -31,6 +31,7 @@ use Rattle.plan_grammar.specs.Meant.{zeroPlan, planOf}
 use Rattle.plan_words.specs.Words.{planSize, planWords, planOfWords}
 use Rattle.memory.specs.declared.Memory.{Memory}
 use Rattle.memory.specs.declared.Outcome.{Outcome}
+use Rattle.memory.specs.declared.VoteOutcome.{VoteOutcome}
 use Rattle.memory.specs.Size.{messageSize}
 use Rattle.node.specs.Answers.{lengthTests, lengthChecked, powerOnAnswer, computeAnswer, voteAnswer, messagePlace, setpointPlace}
 use Rattle.system.specs.declared.System.{System}
@@ -41,7 +42,7 @@ use Rattle.system.specs.System.{powerOn, systemPowerOnAnswer}
 use Rattle.system.specs.Frame.{maskOk, countsOk, lengthsOk, singleTests, singleAnswer, singlePlaceAfter, frameTests as systemTests, frameAnswer, framePlace, workingTests as systemWorkingTests, workingAnswer, equalTests as systemEqualTests, equalAnswer}
 use Rattle.system_words.specs.Words.{codeOf, memoryOfWords, patternCount, rowsOk, systemOfWords, countersOf, patternsOf, countsAlone}
 use Rattle.system_words.proofs.WordsLaws.{rows-lengths, counters-back, patterns-back, good-back}
-use Rattle.ragbasalt.specs.Calls.{readCall, wordsTests, CountGiven, FrameGiven, countGiven, placeGiven, textGiven, memoryGiven, singleGiven, rowsGiven, frameGiven, writeCall, checkCall, periodCall, sizeCall, nodeTests, cellsRefused, memoryCall, placeCall, powerOnCall, computeCall, voteCall, messageCall, setpointsCall, singleRight, singleCall, countsTests, rowsRight, startCallTests, startCall, frameCallTests, frameCall, equalCallTests, equalCall, workingCallTests, workingCall}
+use Rattle.ragbasalt.specs.Calls.{readCall, wordsTests, countGiven, placeGiven, textGiven, memoryGiven, voteGiven, singleGiven, rowsGiven, frameGiven, writeCall, checkCall, periodCall, sizeCall, nodeTests, cellsRefused, memoryCall, agreedCall, placeCall, powerOnCall, computeCall, voteCall, messageCall, setpointsCall, singleRight, singleCall, countsTests, rowsRight, startCallTests, startCall, frameCallTests, frameCall, equalCallTests, equalCall, workingCallTests, workingCall}
 
 -- ---- results by their parts
 
@@ -57,14 +58,17 @@ written-eq e f g = λ i. record { answer = e i; text = f i; count = g i }
 pub stored-eq : {a b m n : ℕ} {s t : List ℕ} → a ≡ b → m ≡ n → s ≡ t → memoryGiven a m s ≡ memoryGiven b n t
 stored-eq e f g = λ i. record { answer = e i; counter = f i; cells = g i }
 
+pub vote-eq : {a b m n x y : ℕ} {s t : List ℕ} → a ≡ b → m ≡ n → s ≡ t → x ≡ y → voteGiven a m s x ≡ voteGiven b n t y
+vote-eq e f g h = λ i. record { answer = e i; counter = f i; cells = g i; agreement = h i }
+
 pub single-eq : {a b m n : ℕ} {s t u v : List ℕ} → a ≡ b → m ≡ n → s ≡ t → u ≡ v → singleGiven a m s u ≡ singleGiven b n t v
 single-eq e f g h = λ i. record { answer = e i; counter = f i; cells = g i; place = h i }
 
 pub rows-eq : {a b : ℕ} {s t u v w x : List ℕ} → a ≡ b → s ≡ t → u ≡ v → w ≡ x → rowsGiven a s u w ≡ rowsGiven b t v x
 rows-eq e f g h = λ i. record { answer = e i; counters = f i; cells = g i; good = h i }
 
-pub frame-eq : {a b : ℕ} {s t u v w x y z : List ℕ} → a ≡ b → s ≡ t → u ≡ v → w ≡ x → y ≡ z → frameGiven a s u w y ≡ frameGiven b t v x z
-frame-eq e f g h k = λ i. record { answer = e i; counters = f i; cells = g i; good = h i; place = k i }
+pub frame-eq : {a b m n : ℕ} {s t u v w x y z : List ℕ} → a ≡ b → s ≡ t → u ≡ v → w ≡ x → y ≡ z → m ≡ n → frameGiven a s u w y m ≡ frameGiven b t v x z n
+frame-eq e f g h k l = λ i. record { answer = e i; counters = f i; cells = g i; good = h i; place = k i; agreement = l i }
 
 -- ---- tests
 
@@ -157,6 +161,11 @@ module _ (p : Plan) where
       unfolding memoryCall
       memory-wrong new e = stored-eq (answer-wrong e) (still _ _) (still _ _)
 
+      pub agreed-wrong :
+          (new : Memory) (agreed : ℕ) {n : ℕ} → n ≡ codeOf (cellsRefused p) → voteGiven n counter cells 0 ≡ agreedCall p counter cells right new agreed
+      unfolding agreedCall
+      agreed-wrong new agreed e = vote-eq (answer-wrong e) (still _ _) (still _ _) (still _ _)
+
       pub place-wrong : (new out : List ℕ) {n : ℕ} → n ≡ codeOf (cellsRefused p) → placeGiven n out ≡ placeCall p cells right new out
       unfolding placeCall
       place-wrong new out e = placed-eq (answer-wrong e) (still _ _)
@@ -190,6 +199,18 @@ module _ (p : Plan) where
           memoryGiven n x y ≡ memoryCall p counter cells right new
       unfolding memoryCall
       memory-right new e f (g, h) k = stored-eq (answer-right e f) (part-right (λ (z : Memory). z .counter) new _ g k) (part-right (λ (z : Memory). z .cells) new _ h k)
+
+      pub agreed-right :
+          (new : Memory) (agreed : ℕ) {n x z : ℕ} {y : List ℕ} {a : Answer} {m : Memory} →
+          n ≡ codeOf a →
+          a ≡ answered (lengthOnly right) →
+          (x ≡ m .counter) × (y ≡ m .cells) →
+          m ≡ ifPassed (lengthOnly right) new (memoryOfWords counter cells) →
+          z ≡ ifPassed (lengthOnly right) agreed 0 →
+          voteGiven n x y z ≡ agreedCall p counter cells right new agreed
+      unfolding agreedCall
+      agreed-right new agreed e f (g, h) k l =
+          vote-eq (answer-right e f) (part-right (λ (z : Memory). z .counter) new _ g k) (part-right (λ (z : Memory). z .cells) new _ h k) (part-right (λ (z : ℕ). z) agreed 0 refl l)
 
       pub place-right :
           (new out : List ℕ) {n : ℕ} {y : List ℕ} {a : Answer} →
@@ -228,9 +249,9 @@ module _ (words : List ℕ) (counter : ℕ) (cells : List ℕ) {p : Plan} (is : 
     unfolding computeCall
     compute-wrong sensors = memory-wrong _ counter cells _ ne _ at
 
-    pub vote-wrong : (box : List ℕ) → memoryGiven n counter cells ≡ voteCall words counter cells box
+    pub vote-wrong : (box : List ℕ) → voteGiven n counter cells 0 ≡ voteCall words counter cells box
     unfolding voteCall
-    vote-wrong box = memory-wrong _ counter cells _ ne _ at
+    vote-wrong box = agreed-wrong _ counter cells _ ne _ _ at
 
     pub message-wrong : (out : List ℕ) → placeGiven n out ≡ messageCall words counter cells out
     unfolding messageCall
@@ -256,14 +277,15 @@ module _ (words : List ℕ) (counter : ℕ) (cells : List ℕ) {p : Plan} (is : 
         let h = rw (is, own) at e in memory-right _ counter cells _ eq _ f (ap (λ (z : Outcome). z .answer) h) g (ap (λ (z : Outcome). z .memory) h)
 
     pub vote-made :
-        (box : List ℕ) {o : Outcome} {n x : ℕ} {y : List ℕ} →
+        (box : List ℕ) {o : VoteOutcome} {n x : ℕ} {y : List ℕ} →
         o ≡ voteAnswer p m box →
         n ≡ codeOf (o .answer) →
         (x ≡ o .memory .counter) × (y ≡ o .memory .cells) →
-        memoryGiven n x y ≡ voteCall words counter cells box
+        voteGiven n x y (o .agreement) ≡ voteCall words counter cells box
     unfolding voteCall voteAnswer lengthChecked lengthTests
     vote-made box e f g =
-        let h = rw (is, own) at e in memory-right _ counter cells _ eq _ f (ap (λ (z : Outcome). z .answer) h) g (ap (λ (z : Outcome). z .memory) h)
+        let h = rw (is, own) at e in
+        agreed-right _ counter cells _ eq _ _ f (ap (λ (z : VoteOutcome). z .answer) h) g (ap (λ (z : VoteOutcome). z .memory) h) (ap (λ (z : VoteOutcome). z .agreement) h)
 
     pub message-made :
         (out : List ℕ) {a : Answer} {n : ℕ} {y : List ℕ} →
@@ -438,12 +460,12 @@ module _ (words counters cells good : List ℕ) {p : Plan} (is : p ≡ planOfWor
     pub frame-wrong :
         (sensors : List ℕ) (mask : ℕ) (faults out : List ℕ) {n : ℕ} →
         n ≡ codeOf (answered (countsTests p good mask false)) →
-        frameGiven n counters cells good out ≡ frameCall words counters cells good sensors mask faults out
+        frameGiven n counters cells good out 0 ≡ frameCall words counters cells good sensors mask faults out
     unfolding frameCall frameCallTests
     frame-wrong sensors mask faults out e =
         let g = rw is at e in
         let v = and-false-left (lengthsOk q (length sensors) (length faults) (length out)) w in
-        frame-eq (counts-wrong q good mask v g) (counts-kept q good mask v _ _) (counts-kept q good mask v _ _) (counts-kept q good mask v _ _) (counts-kept q good mask v _ _)
+        frame-eq (counts-wrong q good mask v g) (counts-kept q good mask v _ _) (counts-kept q good mask v _ _) (counts-kept q good mask v _ _) (counts-kept q good mask v _ _) (counts-kept q good mask v _ _)
 
   pub equal-wrong :
       (counter : ℕ) (own : List ℕ) {n : ℕ} →
@@ -547,7 +569,7 @@ module _ (words counters cells good : List ℕ) {p : Plan} (is : p ≡ planOfWor
         (o ≡ frameAnswer p s sensors mask faults out) × (u ≡ framePlace p s sensors mask faults out) →
         n ≡ codeOf (o .answer) →
         (x ≡ countersOf (o .system)) × (y ≡ patternsOf (o .system)) × (z ≡ o .system .good) →
-        frameGiven n x y z u ≡ frameCall words counters cells good sensors mask faults out
+        frameGiven n x y z u (o .agreement) ≡ frameCall words counters cells good sensors mask faults out
     unfolding frameCall frameAnswer framePlace
     frame-made e f g (h, k, l) =
         let m = rw (is, e) at f in
@@ -558,6 +580,7 @@ module _ (words counters cells good : List ℕ) {p : Plan} (is : p ≡ planOfWor
         (part patternsOf _ sys k b (patterns-back counters cells good (lengths .1)))
         (part (λ (z : System). z .good) _ sys l b (good-back counters cells good))
         (part (λ (z : List ℕ). z) _ out refl (m .1) refl)
+        (part (λ (z : ℕ). z) _ 0 refl (ap (λ (z : Framed). z .agreement) (m .0)) refl)
 
   -- the nodes with a memory
   pub equal-made :

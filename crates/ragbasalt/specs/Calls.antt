@@ -18,12 +18,12 @@ use Rattle.plan_grammar.specs.Meant.{planOf}
 use Rattle.plan_text.specs.Answers.{readAnswer, writeAnswer, writePlace}
 use Rattle.plan_words.specs.Words.{planSize, planWords, planOfWords}
 use Rattle.memory.specs.declared.Memory.{Memory}
-use Rattle.memory.specs.Node.{poweredOn, computed, messageOf, voted, setpoint}
+use Rattle.memory.specs.Node.{poweredOn, computed, messageOf, voted, voteAgreement, setpoint}
 use Rattle.memory.specs.Size.{messageSize, mailboxSize}
 use Rattle.system.specs.declared.System.{System}
 use Rattle.system.specs.System.{powerOn}
 use Rattle.system.specs.Counts.{isWorking}
-use Rattle.system.specs.Frame.{memoryOf, maskOk, countsOk, lengthsOk, systemAfter, placeAfter, singlePlace, sameMemory}
+use Rattle.system.specs.Frame.{memoryOf, maskOk, countsOk, lengthsOk, systemAfter, placeAfter, frameAgreement, singlePlace, sameMemory}
 use Rattle.system_words.specs.Words.{codeOf, memoryOfWords, rowsOk, systemOfWords, countersOf, patternsOf, countsAlone}
 
 -- ---- what a call gives, and what then stands where it was lent a place
@@ -46,6 +46,12 @@ pub record MemoryGiven : Type 0 where
   pub counter : ℕ
   pub cells : List ℕ
 
+pub record VoteGiven : Type 0 where
+  pub answer : ℕ
+  pub counter : ℕ
+  pub cells : List ℕ
+  pub agreement : ℕ
+
 pub record SingleGiven : Type 0 where
   pub answer : ℕ
   pub counter : ℕ
@@ -64,6 +70,7 @@ pub record FrameGiven : Type 0 where
   pub cells : List ℕ
   pub good : List ℕ
   pub place : List ℕ
+  pub agreement : ℕ
 
 abbrev pub countGiven : ℕ → ℕ → CountGiven
 countGiven answer count = record { answer = answer; count = count }
@@ -77,14 +84,18 @@ textGiven answer text count = record { answer = answer; text = text; count = cou
 abbrev pub memoryGiven : ℕ → ℕ → List ℕ → MemoryGiven
 memoryGiven answer counter cells = record { answer = answer; counter = counter; cells = cells }
 
+abbrev pub voteGiven : ℕ → ℕ → List ℕ → ℕ → VoteGiven
+voteGiven answer counter cells agreement = record { answer = answer; counter = counter; cells = cells; agreement = agreement }
+
 abbrev pub singleGiven : ℕ → ℕ → List ℕ → List ℕ → SingleGiven
 singleGiven answer counter cells place = record { answer = answer; counter = counter; cells = cells; place = place }
 
 abbrev pub rowsGiven : ℕ → List ℕ → List ℕ → List ℕ → RowsGiven
 rowsGiven answer counters cells good = record { answer = answer; counters = counters; cells = cells; good = good }
 
-abbrev pub frameGiven : ℕ → List ℕ → List ℕ → List ℕ → List ℕ → FrameGiven
-frameGiven answer counters cells good place = record { answer = answer; counters = counters; cells = cells; good = good; place = place }
+abbrev pub frameGiven : ℕ → List ℕ → List ℕ → List ℕ → List ℕ → ℕ → FrameGiven
+frameGiven answer counters cells good place agreement =
+    record { answer = answer; counters = counters; cells = cells; good = good; place = place; agreement = agreement }
 
 -- ---- plans
 
@@ -127,6 +138,13 @@ memoryCall p counter cells right new =
     memoryGiven (codeOf (answered (nodeTests p cells right))) (ifPassed (nodeTests p cells right) (new .counter) counter)
     (ifPassed (nodeTests p cells right) (new .cells) cells)
 
+-- and one that gives an agreement with it
+unfoldable pub agreedCall : Plan → ℕ → List ℕ → Bool → Memory → ℕ → VoteGiven
+agreedCall p counter cells right new agreement =
+    voteGiven (codeOf (answered (nodeTests p cells right))) (ifPassed (nodeTests p cells right) (new .counter) counter)
+    (ifPassed (nodeTests p cells right) (new .cells) cells)
+    (ifPassed (nodeTests p cells right) agreement 0)
+
 -- a call that fills a place
 unfoldable pub placeCall : Plan → List ℕ → Bool → List ℕ → List ℕ → PlaceGiven
 placeCall p cells right new out = placeGiven (codeOf (answered (nodeTests p cells right))) (ifPassed (nodeTests p cells right) new out)
@@ -144,8 +162,8 @@ module _ (words : List ℕ) (counter : ℕ) (cells : List ℕ) where
   unfoldable pub computeCall : List ℕ → MemoryGiven
   computeCall sensors = memoryCall p counter cells (eqb (length sensors) (p .sensors)) (computed p sensors own)
 
-  unfoldable pub voteCall : List ℕ → MemoryGiven
-  voteCall box = memoryCall p counter cells (eqb (length box) (mailboxSize p)) (voted p own box)
+  unfoldable pub voteCall : List ℕ → VoteGiven
+  voteCall box = agreedCall p counter cells (eqb (length box) (mailboxSize p)) (voted p own box) (voteAgreement p own box)
 
   unfoldable pub messageCall : List ℕ → PlaceGiven
   messageCall out = placeCall p cells (eqb (length out) (messageSize p)) (messageOf p own) out
@@ -199,6 +217,7 @@ module _ (words counters cells good : List ℕ) where
         (ifPassed frameCallTests (patternsOf (systemAfter q sys sensors mask faults)) cells)
         (ifPassed frameCallTests (systemAfter q sys sensors mask faults .good) good)
         (ifPassed frameCallTests (placeAfter q sys sensors mask faults out) out)
+        (ifPassed frameCallTests (frameAgreement q sys sensors mask faults) 0)
 
   -- how many nodes have this memory
   module _ (counter : ℕ) (single : List ℕ) where

@@ -9,17 +9,17 @@ ghost use Rattle.system.specs.Fault.{faultsSize};
 ghost use Rattle.answer.specs.Tests.{answered};
 ghost use mathlib.Core.Bool.{false};
 ghost use Rattle.system_words.specs.Words.{codeOf};
-ghost use Rattle.ragbasalt.specs.Calls.{countGiven, placeGiven, textGiven, memoryGiven, singleGiven, rowsGiven, frameGiven, readCall, writeCall, checkCall, periodCall, sizeCall, cellsRefused, powerOnCall, computeCall, voteCall, messageCall, setpointsCall, singleCall, countsTests, startCall, frameCall, equalCall, workingCall};
+ghost use Rattle.ragbasalt.specs.Calls.{countGiven, placeGiven, textGiven, memoryGiven, voteGiven, singleGiven, rowsGiven, frameGiven, readCall, writeCall, checkCall, periodCall, sizeCall, cellsRefused, powerOnCall, computeCall, voteCall, messageCall, setpointsCall, singleCall, countsTests, startCall, frameCall, equalCall, workingCall};
 use answer::Answer;
 use plan::Plan;
 use system::System;
 
-// It rises where a function gains a slice, or a struct of the header a field.
+// It rises where a function gains a slice or a number, or a struct of the header a field.
 #[no_mangle]
 pub extern "C" fn ragbasalt_version() -> u64
-    ensures { λ r. ⌜ r ≡ 1 ⌝ }
+    ensures { λ r. ⌜ r ≡ 2 ⌝ }
 {
-    1
+    2
 }
 
 // ---- plans
@@ -195,15 +195,18 @@ pub extern "C" fn ragbasalt_node_vote(
     counter: &mut u16,
     cells: &mut [u64],
     mailbox: &[u8],
+    agreement: &mut usize,
 ) -> u64
-    ensures { λ r. ⌜ memoryGiven r (now (counter .exit)) (now (cells .exit)) ≡ voteCall (now (plan .entry)) (now (counter .entry)) (now (cells .entry)) (now (mailbox .entry)) ⌝ }
+    ensures { λ r. ⌜ voteGiven r (now (counter .exit)) (now (cells .exit)) (now (agreement .exit)) ≡ voteCall (now (plan .entry)) (now (counter .entry)) (now (cells .entry)) (now (mailbox .entry)) ⌝ }
 {
     let p = plan_words::step::plan(plan);
     if cells.len() != Plan::CELLS {
+        *agreement = 0;
         return cells_refused(p);
     }
     let m = system_words::step::memory(*counter, cells);
     let made = node::vote(p, m, mailbox);
+    *agreement = made.agreement;
     system_words::step::put_memory(made.memory, counter, cells);
     let answer = made.answer;
     system_words::step::code(answer)
@@ -296,15 +299,18 @@ pub extern "C" fn ragbasalt_system_frame(
     mask: u64,
     faults: &[u8],
     setpoints: &mut [u64],
+    agreement: &mut usize,
 ) -> u64
-    ensures { λ r. ⌜ frameGiven r (now (counters .exit)) (now (cells .exit)) (now (good .exit)) (now (setpoints .exit)) ≡ frameCall (now (plan .entry)) (now (counters .entry)) (now (cells .entry)) (now (good .entry)) (now (sensors .entry)) mask (now (faults .entry)) (now (setpoints .entry)) ⌝ }
+    ensures { λ r. ⌜ frameGiven r (now (counters .exit)) (now (cells .exit)) (now (good .exit)) (now (setpoints .exit)) (now (agreement .exit)) ≡ frameCall (now (plan .entry)) (now (counters .entry)) (now (cells .entry)) (now (good .entry)) (now (sensors .entry)) mask (now (faults .entry)) (now (setpoints .entry)) ⌝ }
 {
     let p = plan_words::step::plan(plan);
     if !system_words::step::rows_ok(counters.len(), cells.len(), good.len()) {
+        *agreement = 0;
         return rows_refused(p, good, mask);
     }
     let system = system_words::step::system(counters, cells, good);
     let made = frame::frame(p, system, sensors, mask, faults, setpoints);
+    *agreement = made.agreement;
     system_words::step::put_system(made.system, counters, cells, good);
     let answer = made.answer;
     system_words::step::code(answer)

@@ -9,10 +9,11 @@ use lib.Dec.{eqb, ltb}
 use lib.ListN.{length, getD}
 use lib.Seq.{ext-getD}
 use borrow.Author.Tests.{eqb-true, eqb-false, ltb-true, ltb-false, lt-ltb, le-ltb}
-use Rattle.array.specs.Index.{fill}
+use Rattle.array.specs.Index.{fill, lesser, least}
 use Rattle.array.specs.Bit.{bit}
 use Rattle.array.specs.Word.{be}
 use Rattle.array.proofs.TestLaws.{split}
+use Rattle.array.proofs.LeastLaws.{least-same}
 use Rattle.array.proofs.PlacesLaws.{fill-length, fill-in, fill-out, fill-same}
 use Rattle.plan.specs.declared.Plan.{Plan}
 use Rattle.plan.specs.declared.Sizes.{Sizes}
@@ -22,24 +23,26 @@ use Rattle.plan.specs.Accepted.{accepted}
 use Rattle.plan.specs.Sizes.{sizesWith, sizesOf}
 use Rattle.plan.proofs.AcceptedLaws.{Shape, shape-of-accepted}
 use Rattle.plan_period.proofs.AnswerLaws.{period-small}
+use Rattle.ballot.specs.Majority.{majority, agreement, orOwn}
 use Rattle.ballot.specs.Plane.{plane}
 use Rattle.ballot.proofs.MajorityLaws.{majority-same}
+use Rattle.ballot.proofs.AgreementLaws.{agreement-same}
 use Rattle.ballot.proofs.PlaneLaws.{plane-same}
 use Rattle.memory.specs.declared.Memory.{Memory}
 use Rattle.memory.specs.Size.{patternSize, cellAt, binSize}
-use Rattle.memory.specs.Node.{zeroMemory, computed, messageOf, binOf, before, sentCell, counterFrom, cellFrom, counterIn, cellIn, votedCounter, votedCell, voted, setpoint}
+use Rattle.memory.specs.Node.{zeroMemory, computed, messageOf, binOf, before, sentCell, counterFrom, cellFrom, counterIn, cellIn, votedCounter, votedCell, voted, voteAgreement, setpoint}
 use Rattle.memory.proofs.MessageLaws.{bin-length, counterFrom-message, cellFrom-message, counterFrom-part, cellFrom-part, counterIn-bin, cellIn-bin}
 use Rattle.memory.proofs.NodeLaws.{computed-small, computed-length, computed-past}
 use Rattle.system.specs.declared.System.{System}
 use Rattle.system.specs.Fault.{faultAt, faultMessageAt, faultMemory, faultMessage}
 use Rattle.system.specs.Counts.{goodAfter}
-use Rattle.system.specs.Frame.{memoryOf, computedBy, heard, mailboxOf, memoryAfter, putOut, systemAfter, placeAfter}
+use Rattle.system.specs.Frame.{memoryOf, computedBy, heard, mailboxOf, memoryAfter, putOut, systemAfter, placeAfter, agreementBy, frameAgreement}
 use Rattle.system.proofs.FaultLaws.{faultMessage-length}
 use Rattle.faults.specs.Code.{Small}
 use Rattle.faults.proofs.LayoutLaws.{small-of-shape}
 use Rattle.rows.specs.Code.{wordPlace, memoryIn, Rows, Stored, Through}
 use Rattle.rows.proofs.RowLaws.{row-at, memory-eq}
-use Rattle.row_vote.specs.Code.{sentWord, votedBy, heardCounter, heardWord, sentFrame, votedRow}
+use Rattle.row_vote.specs.Code.{frameBefore, votedAt, isGood, sentWord, votedBy, heardCounter, heardWord, counterAfter, counterAgreement, wordAgreement, sentFrame, votedRow, rowAgreement}
 use Rattle.row_frame.specs.Code.{ran, spoiled, closedRow, putFrom}
 
 -- ---- the numbers of an accepted plan
@@ -133,6 +136,20 @@ voted-by p m box counters words e f =
     (fill-same _ _ (p .cells) (m .cells)
     (λ c l. rw (majority-same (words c) (cellIn p box c) (p .nodes) (λ j k. f c j l k)))))
 
+-- and so is its agreement
+agreed-by :
+    (p : Plan) (m : Memory) (box : List ℕ) (counters : ℕ → Option ℕ) (words : ℕ → ℕ → Option ℕ) →
+    ((j : ℕ) → j < p .nodes → counters j ≡ counterIn p box j) →
+    ((c j : ℕ) → c < p .cells → j < p .nodes → words c j ≡ cellIn p box c j) →
+    lesser (agreement counters (p .nodes))
+    (least (votedAt (p .voted) (frameBefore (p .frames) (orOwn (p .frames) (m .counter) (majority counters (p .nodes))))) (λ c. agreement (words c) (p .nodes)) (p .cells))
+    ≡ voteAgreement p m box
+unfolding voteAgreement votedCounter before votedIn
+agreed-by p m box counters words e f =
+    rw (majority-same counters (counterIn p box) (p .nodes) e, agreement-same counters (counterIn p box) (p .nodes) e)
+    (ap (lesser (agreement (counterIn p box) (p .nodes)))
+    (least-same _ _ _ _ (p .cells) (λ c l. refl) (λ c l t. agreement-same (words c) (cellIn p box c) (p .nodes) (λ j k. f c j l k))))
+
 -- ---- the frame after its tasks
 
 module _
@@ -213,6 +230,24 @@ module _
         (λ c. heardWord (sizesOf p) mask faults (sentWord (p .voted) (sentFrame (p .voted) (sizesOf p) mask faults counters cells) cells c) c i)
         (counter-heard i) (word-heard i)))
 
+    -- ---- the agreement
+
+    agreement-after : (i : ℕ) → i < p .nodes → rowAgreement (p .voted) (sizesOf p) mask faults counters cells i ≡ agreementBy p sys sensors mask faults i
+    unfolding rowAgreement counterAgreement counterAfter wordAgreement agreementBy computedBy
+    agreement-after i l =
+        rw (own-counter i l)
+        (agreed-by p (own i) (mailboxOf p sys sensors mask faults i)
+        (heardCounter (sizesOf p) mask faults (λ j. getD counters (suc j) 0) i)
+        (λ c. heardWord (sizesOf p) mask faults (sentWord (p .voted) (sentFrame (p .voted) (sizesOf p) mask faults counters cells) cells c) c i)
+        (counter-heard i) (word-heard i))
+
+    pub frame-agreed :
+        {r : ℕ} → r ≡ Option·getD (least (isGood mask) (rowAgreement (p .voted) (sizesOf p) mask faults counters cells) (p .nodes)) 0 →
+        r ≡ frameAgreement p sys sensors mask faults
+    unfolding frameAgreement
+    frame-agreed h =
+        h ∙ ap (λ (o : Option ℕ). Option·getD o 0) (least-same (isGood mask) (isGood mask) _ _ (p .nodes) (λ i l. refl) (λ i l t. agreement-after i l))
+
     module _ (counters' cells' : List ℕ) (closed : Through (p .nodes + 1) (closedRow (p .voted) (sizesOf p) mask faults counters cells) counters cells counters' cells') where
       node-after : (i : ℕ) → i < p .nodes → memoryIn counters' cells' (suc i) ≡ memoryAfter p sys sensors mask faults i
       node-after i l = closed .done (suc i) (omega arith) ∙ ap (closedRow (p .voted) (sizesOf p) mask faults counters cells (suc i)) (ran-node i l) ∙ row-after i
@@ -266,27 +301,30 @@ closed-single votes s mask faults counters cells m = refl
 pub framed :
     (p : Plan) → accepted p ≡ true → (s : Sizes) → s ≡ sizesOf p →
     (first : ℕ) → first ≤ 1 → (sensors : List ℕ) (mask : ℕ) (faults : List ℕ)
-    (counters cells counters₁ cells₁ counters₂ cells₂ good good' place place' : List ℕ) →
+    (counters cells counters₁ cells₁ counters₂ cells₂ good good' place place' : List ℕ) (agreed : ℕ) →
     Through (p .nodes + 1) (ran p sensors first) counters cells counters₁ cells₁ →
     ((i : ℕ) → getD cells₁ i 0 < 2 ^ 64) →
     Through (s .nodes + 1) (closedRow (p .voted) s mask faults counters₁ cells₁) counters₁ cells₁ counters₂ cells₂ →
     place' ≡ fill (λ a. Option·getD (plane (putFrom s mask faults cells₂ (getD (p .«actuator_cell») a 0) a) (s .nodes)) 0) (s .actuators) place →
     good' ≡ fill (goodAfter (s .period) mask good) (s .nodes) good →
-    ((sys : System) → Rows sys counters cells good → Rows (systemAfter p sys sensors mask faults) counters₂ cells₂ good' × (place' ≡ placeAfter p sys sensors mask faults place))
+    agreed ≡ Option·getD (least (isGood mask) (rowAgreement (p .voted) s mask faults counters₁ cells₁) (s .nodes)) 0 →
+    ((sys : System) → Rows sys counters cells good → Rows (systemAfter p sys sensors mask faults) counters₂ cells₂ good' × (place' ≡ placeAfter p sys sensors mask faults place) × (agreed ≡ frameAgreement p sys sensors mask faults))
     × (memoryIn counters₂ cells₂ 0 ≡ cond (eqb first 0) (computed p sensors (memoryIn counters cells 0)) (memoryIn counters cells 0))
-framed p accept s e first few sensors mask faults counters cells counters₁ cells₁ counters₂ cells₂ good good' place place' tasks bounded =
+framed p accept s e first few sensors mask faults counters cells counters₁ cells₁ counters₂ cells₂ good good' place place' agreed tasks bounded =
     subst
     (λ (z : Sizes).
     Through (z .nodes + 1) (closedRow (p .voted) z mask faults counters₁ cells₁) counters₁ cells₁ counters₂ cells₂ →
     place' ≡ fill (λ a. Option·getD (plane (putFrom z mask faults cells₂ (getD (p .«actuator_cell») a 0) a) (z .nodes)) 0) (z .actuators) place →
     good' ≡ fill (goodAfter (z .period) mask good) (z .nodes) good →
-    ((sys : System) → Rows sys counters cells good → Rows (systemAfter p sys sensors mask faults) counters₂ cells₂ good' × (place' ≡ placeAfter p sys sensors mask faults place))
+    agreed ≡ Option·getD (least (isGood mask) (rowAgreement (p .voted) z mask faults counters₁ cells₁) (z .nodes)) 0 →
+    ((sys : System) → Rows sys counters cells good → Rows (systemAfter p sys sensors mask faults) counters₂ cells₂ good' × (place' ≡ placeAfter p sys sensors mask faults place) × (agreed ≡ frameAgreement p sys sensors mask faults))
     × (memoryIn counters₂ cells₂ 0 ≡ cond (eqb first 0) (computed p sensors (memoryIn counters cells 0)) (memoryIn counters cells 0)))
     (sym e)
-    (λ closed puts counts. (
+    (λ closed puts counts least-is. (
       (λ sys rows. (
         rows-after p accept sys sensors mask faults counters₁ cells₁ (node sys rows) bounded counters₂ cells₂ closed (past sys rows) (rows .count) good good' (rows .good-is) counts,
         place-after p accept sys sensors mask faults counters₁ cells₁ (node sys rows) bounded counters₂ cells₂ closed place place' puts,
+        frame-agreed p accept sys sensors mask faults counters₁ cells₁ (node sys rows) bounded least-is,
       )),
       alone closed ∙ tasks .done 0 (omega arith) ∙ ran-single p sensors first (memoryIn counters cells 0),
     ))

@@ -5,7 +5,7 @@ ghost use mathlib.Core.Option.{Option·getD};
 ghost use Prim.Native.Nat.{ℕ, _+_, _<_, _≤_, _^_};
 ghost use lib.Dec.{eqb};
 ghost use lib.ListN.{length, getD};
-ghost use Rattle.array.specs.Index.{fill as filledWith};
+ghost use Rattle.array.specs.Index.{fill as filledWith, least};
 ghost use Rattle.array.specs.Word.{be};
 ghost use Rattle.plan.specs.Limits.{mostFrames, mostCells};
 ghost use Rattle.plan.specs.Accepted.{accepted};
@@ -16,9 +16,10 @@ ghost use Rattle.ballot.specs.Code.{Told};
 ghost use Rattle.memory.specs.Size.{patternSize, cellAt};
 ghost use Rattle.memory.specs.Node.{computed};
 ghost use Rattle.system.specs.Counts.{goodAfter};
-ghost use Rattle.system.specs.Frame.{systemAfter, placeAfter};
+ghost use Rattle.system.specs.Frame.{systemAfter, placeAfter, frameAgreement};
 ghost use Rattle.faults.specs.Code.{Small, Parts};
 ghost use Rattle.rows.specs.Code.{rowCount, wordCount, memoryIn, Rows, Through};
+ghost use Rattle.row_vote.specs.Code.{isGood, rowAgreement};
 ghost use Rattle.row_frame.specs.Code.{spoiled, closedRow, putFrom};
 use plan::Plan;
 use plan::Sizes;
@@ -108,7 +109,7 @@ fn plane_values<'a>(
 
 // ---- the frame
 
-// A frame after its tasks: vote, faults, setpoints, good counts.
+// A frame after its tasks: vote, faults, setpoints, good counts. It gives the frame's agreement.
 fn close<'a>(
     voted: &'a [bool; Plan::VOTES],
     table: &'a [usize; Plan::ACTUATORS],
@@ -119,18 +120,19 @@ fn close<'a>(
     cells: &mut [u64],
     good: &mut [u16; System::NODES],
     place: &mut [u64],
-)
+) -> usize
     requires { ⌜ Small s × (0 < s .nodes) × (0 < s .frames) × (s .frames ≤ mostFrames) × (s .period < 65536) × Parts s mask (length (now faults)) × (length (now counters) ≡ rowCount) × (length (now cells) ≡ wordCount) × (length (now place) ≡ s .actuators) × ((a : ℕ) → a < s .actuators → getD (now table) a 0 < mostCells) ⌝ }
-    ensures { λ _. ⌜ Through (s .nodes + 1) (closedRow (now (voted .entry)) s mask (now (faults .entry)) (now (counters .entry)) (now (cells .entry))) (now (counters .entry)) (now (cells .entry)) (now (counters .exit)) (now (cells .exit)) × (now (place .exit) ≡ filledWith (λ a. Option·getD (planeOf (putFrom s mask (now (faults .entry)) (now (cells .exit)) (getD (now (table .entry)) a 0) a) (s .nodes)) 0) (s .actuators) (now (place .entry))) × (now (good .exit) ≡ filledWith (goodAfter (s .period) mask (now (good .entry))) (s .nodes) (now (good .entry))) × ((i : ℕ) → getD (now (cells .entry)) i 0 < 2 ^ 64) ⌝ }
+    ensures { λ r. ⌜ Through (s .nodes + 1) (closedRow (now (voted .entry)) s mask (now (faults .entry)) (now (counters .entry)) (now (cells .entry))) (now (counters .entry)) (now (cells .entry)) (now (counters .exit)) (now (cells .exit)) × (now (place .exit) ≡ filledWith (λ a. Option·getD (planeOf (putFrom s mask (now (faults .entry)) (now (cells .exit)) (getD (now (table .entry)) a 0) a) (s .nodes)) 0) (s .actuators) (now (place .entry))) × (now (good .exit) ≡ filledWith (goodAfter (s .period) mask (now (good .entry))) (s .nodes) (now (good .entry))) × ((i : ℕ) → getD (now (cells .entry)) i 0 < 2 ^ 64) × (r ≡ Option·getD (least (isGood mask) (rowAgreement (now (voted .entry)) s mask (now (faults .entry)) (now (counters .entry)) (now (cells .entry))) (s .nodes)) 0) ⌝ }
 {
-    row_vote::step::vote(voted, s, mask, faults, counters, cells);
+    let agreement = row_vote::step::vote(voted, s, mask, faults, counters, cells);
     spoil(s, mask, faults, counters, cells);
     plane_values(table, s, mask, faults, cells, place);
     counts::step::counts(good, s.nodes, mask, s.period);
+    agreement
 }
 
 // The frame of the system that the rows hold, from row `first` on: the single controller's row 0 is computed only where first is 0. Tasks stand by
-// frame, so a row in the frame of the one before it begins where that one did.
+// frame, so a row in the frame of the one before it begins where that one did. It gives the frame's agreement.
 pub fn frame(
     plan: Plan,
     s: Sizes,
@@ -143,9 +145,9 @@ pub fn frame(
     cells: &mut [u64],
     good: &mut [u16; System::NODES],
     place: &mut [u64],
-)
+) -> usize
     requires { ⌜ (accepted plan ≡ true) × (s ≡ sizesOf plan) × (first ≤ 1) × (length (now sensors) ≡ plan .sensors) × Parts s mask (length (now faults)) × (length (now counters) ≡ rowCount) × (length (now cells) ≡ wordCount) × (length (now place) ≡ plan .actuators) × (now cams ≡ camTable) ⌝ }
-    ensures { λ _. ⌜ ((sys : System) → Rows sys (now (counters .entry)) (now (cells .entry)) (now (good .entry)) → Rows (systemAfter plan sys (now (sensors .entry)) mask (now (faults .entry))) (now (counters .exit)) (now (cells .exit)) (now (good .exit)) × (now (place .exit) ≡ placeAfter plan sys (now (sensors .entry)) mask (now (faults .entry)) (now (place .entry)))) × (memoryIn (now (counters .exit)) (now (cells .exit)) 0 ≡ cond (eqb first 0) (computed plan (now (sensors .entry)) (memoryIn (now (counters .entry)) (now (cells .entry)) 0)) (memoryIn (now (counters .entry)) (now (cells .entry)) 0)) ⌝ }
+    ensures { λ r. ⌜ ((sys : System) → Rows sys (now (counters .entry)) (now (cells .entry)) (now (good .entry)) → Rows (systemAfter plan sys (now (sensors .entry)) mask (now (faults .entry))) (now (counters .exit)) (now (cells .exit)) (now (good .exit)) × (now (place .exit) ≡ placeAfter plan sys (now (sensors .entry)) mask (now (faults .entry)) (now (place .entry))) × (r ≡ frameAgreement plan sys (now (sensors .entry)) mask (now (faults .entry)))) × (memoryIn (now (counters .exit)) (now (cells .exit)) 0 ≡ cond (eqb first 0) (computed plan (now (sensors .entry)) (memoryIn (now (counters .entry)) (now (cells .entry)) 0)) (memoryIn (now (counters .entry)) (now (cells .entry)) 0)) ⌝ }
 {
     let rows = plan.nodes + 1;
     let frames = plan.frames;
@@ -185,5 +187,5 @@ pub fn frame(
         cells,
         good,
         place,
-    );
+    )
 }

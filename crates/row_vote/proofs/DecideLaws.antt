@@ -5,16 +5,21 @@ use mathlib.Core.List.{List}
 use mathlib.Core.Option.{Option, none, some, Option·getD}
 use Prim.Native.Nat.{ℕ, suc, _≤_, _<_}
 use lib.ListN.{getD}
+use Rattle.array.specs.Index.{lesser, least}
 use Rattle.array.proofs.TestLaws.{split}
+use Rattle.array.proofs.LeastLaws.{least-same}
 use Rattle.plan.specs.declared.Sizes.{Sizes}
 use Rattle.plan.specs.Limits.{mostFrames}
-use Rattle.ballot.specs.Majority.{majority, orOwn}
+use Rattle.ballot.specs.Majority.{holders, majority, agreement, orOwn}
 use Rattle.ballot.specs.Code.{Told}
+use Rattle.memory.specs.Node.{counterFrom, cellFrom}
+use Rattle.system.specs.Fault.{faultMessageAt}
 use Rattle.rows.specs.Code.{wordPlace}
-use Rattle.row_vote.specs.Code.{Put, frameBefore, votedAt, isGood, goodOnly, sentWord, agreedFrame, heardCounter, heardWord, counterAfter, takes, wordAfter}
+use Rattle.row_vote.specs.Code.{Put, frameBefore, votedAt, isGood, goodOnly, sentWord, agreedFrame, heardCounter, heardWord, counterAfter, counterAgreement, takes, wordAfter, wordAgreement}
 use Rattle.row_vote.proofs.PutLaws.{put-idle, put-same}
 use Rattle.row_vote.proofs.HeardLaws.{told-word, good-same, counter-settled, counter-kept, counter-alone, counter-read, word-decided, word-alone, word-read}
 use Rattle.row_vote.proofs.VoteLaws.{agreed-none, agreed-below, agreed-above}
+use Rattle.row_vote.proofs.AgreementLaws.{least-of-each, least-of-none, least-of-decided}
 
 -- what was decided of words that were read is decided of what was sent
 decided-of :
@@ -29,41 +34,61 @@ module _ (s : Sizes) (mask : ℕ) (faults counters words : List ℕ) (told : Tol
   sent j = getD counters (suc j) 0
 
   -- what `vote_counter` gives, and leaves
-  abbrev Outcome : ℕ → List ℕ → Type 0
-  Outcome r counters' =
+  abbrev Outcome : ℕ → ℕ → List ℕ → Type 0
+  Outcome r a counters' =
       (r ≡ agreedFrame (s .frames) (majority (goodOnly mask sent) (s .nodes))) × Put suc (isGood mask) (counterAfter s mask faults counters) (s .nodes) counters counters'
+      × (a ≡ lesser (s .nodes) (least (isGood mask) (counterAgreement s mask faults counters) (s .nodes)))
 
   is : majority (goodOnly mask sent) (s .nodes) ≡ o
   is = decided-of mask (s .nodes) sent words told d
 
+  -- what is said of the counter to receiver i
+  abbrev fault : ℕ → ℕ → Option ℕ
+  fault i j = counterFrom faults (faultMessageAt s j i)
+
+  abbrev read : (j : ℕ) → j < s .nodes → sent j ≡ getD words j 0
+  read = told-word sent (s .nodes) words told
+
   pub counter-each :
-      {counters' : List ℕ} → o ≡ none →
+      {counters' : List ℕ} {a : ℕ} → o ≡ none →
       Put suc (isGood mask) (λ i. orOwn (s .frames) (sent i) (majority (heardCounter s mask faults (λ j. getD words j 0) i) (s .nodes))) (s .nodes) counters counters' →
-      Outcome mostFrames counters'
-  counter-each {counters'} e p = (
+      a ≡ lesser (s .nodes) (least (isGood mask) (λ i. agreement (heardCounter s mask faults (λ j. getD words j 0) i) (s .nodes)) (s .nodes)) →
+      Outcome mostFrames a counters'
+  unfolding counterAgreement
+  counter-each {counters'} e p h = (
     agreed-none (s .frames) (is ∙ e),
     put-same suc (isGood mask) (isGood mask) _ (counterAfter s mask faults counters) (s .nodes) counters counters' (λ j l. refl) (λ j l t. counter-read s mask faults j counters words told) p,
+    least-of-each mask (s .nodes) (s .nodes) fault sent (λ j. getD words j 0) read (isGood mask) h,
   )
 
-  pub counter-none : o ≡ none → mask ≡ 0 → Outcome mostFrames counters
-  counter-none e z = (
+  pub counter-none : o ≡ none → mask ≡ 0 → 0 < s .nodes → Outcome mostFrames 0 counters
+  unfolding counterAgreement
+  counter-none e z pos = (
     agreed-none (s .frames) (is ∙ e),
     put-idle suc (isGood mask) (counterAfter s mask faults counters) (s .nodes) counters (λ j l t. counter-alone s mask faults j counters (is ∙ e) z),
+    least-of-none mask (s .nodes) (s .nodes) fault sent (λ j. getD words j 0) read d e z pos,
   )
 
-  module _ (x : ℕ) (e : o ≡ some x) where
+  module _ (x : ℕ) (e : o ≡ some x) {a : ℕ} (h : a ≡ lesser (s .nodes) (least (isGood mask) (λ i. holders (heardCounter s mask faults (λ j. getD words j 0) i) (s .nodes) x) (s .nodes))) where
+    agreed : a ≡ lesser (s .nodes) (least (isGood mask) (counterAgreement s mask faults counters) (s .nodes))
+    unfolding counterAgreement
+    agreed = least-of-decided mask (s .nodes) (s .nodes) fault sent (λ j. getD words j 0) read d x e h
+
     pub counter-below :
         {y r : ℕ} {counters' : List ℕ} → x < s .frames → y ≡ x → Put suc (isGood mask) (λ j. y) (s .nodes) counters counters' → r ≡ frameBefore (s .frames) y →
-        Outcome r counters'
+        Outcome r a counters'
     counter-below {y} {r} {counters'} l z p f = (
       f ∙ ap (frameBefore (s .frames)) z ∙ agreed-below (s .frames) x (is ∙ e) l,
       put-same suc (isGood mask) (isGood mask) _ (counterAfter s mask faults counters) (s .nodes) counters counters' (λ j k. refl) (λ j k t. z ∙ sym (counter-settled s mask faults j counters x (is ∙ e) l)) p,
+      agreed,
     )
 
-    pub counter-above : s .frames ≤ x → Outcome mostFrames counters
+    -- a counter that is no frame is agreed on, though it is not taken
+    pub counter-above : s .frames ≤ x → Outcome mostFrames a counters
     counter-above l = (
       agreed-above (s .frames) x (is ∙ e) l,
       put-idle suc (isGood mask) (counterAfter s mask faults counters) (s .nodes) counters (λ j k t. counter-kept s mask faults j counters x (is ∙ e) l),
+      agreed,
     )
 
 -- ---- a cell
@@ -79,9 +104,22 @@ cell-counted votes s mask faults sent cells c words told frame {cells'} p =
     put-same (λ i. wordPlace (suc i) c) (takes votes mask frame c) (takes votes mask frame c) _ (wordAfter votes s mask faults sent cells c) (s .nodes) cells cells' (λ j l. refl)
     (λ j l t. word-read s mask faults j votes sent cells c words told) p
 
+-- and so is its agreement
+pub cell-least :
+    (votes : List Bool) (s : Sizes) (mask : ℕ) (faults : List ℕ) (sent : ℕ → ℕ) (cells : List ℕ) (c : ℕ) (words : List ℕ) →
+    Told (λ j. some (sentWord votes sent cells c j)) (s .nodes) words →
+    (frame : ℕ → ℕ) (low : ℕ) {a : ℕ} →
+    a ≡ lesser low (least (takes votes mask frame c) (λ i. agreement (heardWord s mask faults (λ j. getD words j 0) c i) (s .nodes)) (s .nodes)) →
+    a ≡ lesser low (least (takes votes mask frame c) (wordAgreement votes s mask faults sent cells c) (s .nodes))
+unfolding wordAgreement
+cell-least votes s mask faults sent cells c words told frame low h =
+    least-of-each mask (s .nodes) low (λ i j. cellFrom faults c (faultMessageAt s j i)) (sentWord votes sent cells c) (λ j. getD words j 0)
+    (told-word (sentWord votes sent cells c) (s .nodes) words told) (takes votes mask frame c) h
+
 module _
     (votes : List Bool) (s : Sizes) (mask : ℕ) (faults : List ℕ) (sent : ℕ → ℕ) (cells : List ℕ) (c : ℕ) (words : List ℕ)
     (told : Told (λ j. some (sentWord votes sent cells c j)) (s .nodes) words) {o : Option ℕ} (d : o ≡ majority (goodOnly mask (λ j. getD words j 0)) (s .nodes))
+    (low : ℕ)
   where
     abbrev place : ℕ → ℕ
     place i = wordPlace (suc i) c
@@ -89,28 +127,52 @@ module _
     abbrev word : ℕ → ℕ
     word = sentWord votes sent cells c
 
-    -- what `vote_cell` leaves
-    abbrev Voted : List ℕ → Type 0
-    Voted cells' = Put place (isGood mask) (wordAfter votes s mask faults sent cells c) (s .nodes) cells cells'
+    -- what `vote_cell` gives, and leaves
+    abbrev Voted : ℕ → List ℕ → Type 0
+    Voted a cells' =
+        Put place (isGood mask) (wordAfter votes s mask faults sent cells c) (s .nodes) cells cells'
+        × (a ≡ lesser low (least (isGood mask) (wordAgreement votes s mask faults sent cells c) (s .nodes)))
 
     told-of : majority (goodOnly mask word) (s .nodes) ≡ o
     told-of = decided-of mask (s .nodes) word words told d
 
+    -- what is said of the cell to receiver i
+    abbrev fault-of : ℕ → ℕ → Option ℕ
+    fault-of i j = cellFrom faults c (faultMessageAt s j i)
+
+    abbrev read-of : (j : ℕ) → j < s .nodes → word j ≡ getD words j 0
+    read-of = told-word word (s .nodes) words told
+
     pub cell-each :
-        (frame : ℕ → ℕ) {cells' : List ℕ} → ((i : ℕ) → i < s .nodes → votedAt votes (frame i) c ≡ true) →
+        (frame : ℕ → ℕ) {a : ℕ} {cells' : List ℕ} → ((i : ℕ) → i < s .nodes → votedAt votes (frame i) c ≡ true) →
         Put place (takes votes mask frame c) (λ i. Option·getD (majority (heardWord s mask faults (λ j. getD words j 0) c i) (s .nodes)) (getD cells (place i) 0)) (s .nodes) cells cells' →
-        Voted cells'
-    cell-each frame {cells'} f p =
-        put-same place (takes votes mask frame c) (isGood mask) (wordAfter votes s mask faults sent cells c) (wordAfter votes s mask faults sent cells c) (s .nodes) cells cells'
-        (λ j l. takes-all j (f j l)) (λ j l t. refl) (cell-counted votes s mask faults sent cells c words told frame p)
+        a ≡ lesser low (least (takes votes mask frame c) (λ i. agreement (heardWord s mask faults (λ j. getD words j 0) c i) (s .nodes)) (s .nodes)) →
+        Voted a cells'
+    unfolding wordAgreement
+    cell-each frame {a} {cells'} f p h = (
+      put-same place (takes votes mask frame c) (isGood mask) (wordAfter votes s mask faults sent cells c) (wordAfter votes s mask faults sent cells c) (s .nodes) cells cells'
+          (λ j l. takes-all j (f j l)) (λ j l t. refl) (cell-counted votes s mask faults sent cells c words told frame p),
+      cell-least votes s mask faults sent cells c words told frame low h
+          ∙ ap (lesser low) (least-same (takes votes mask frame c) (isGood mask) _ _ (s .nodes) (λ j l. takes-all j (f j l)) (λ j l t. refl)),
+    )
       where
         takes-all : (j : ℕ) → votedAt votes (frame j) c ≡ true → takes votes mask frame c j ≡ isGood mask j
         takes-all j v = split (isGood mask j) (λ t. rw (t, v)) (λ t. rw t)
 
-    pub cell-none : o ≡ none → mask ≡ 0 → Voted cells
-    cell-none e z = put-idle place (isGood mask) (wordAfter votes s mask faults sent cells c) (s .nodes) cells (λ j l t. word-alone s mask faults j votes sent cells c (told-of ∙ e) z)
+    pub cell-none : o ≡ none → mask ≡ 0 → 0 < s .nodes → Voted 0 cells
+    unfolding wordAgreement
+    cell-none e z pos = (
+      put-idle place (isGood mask) (wordAfter votes s mask faults sent cells c) (s .nodes) cells (λ j l t. word-alone s mask faults j votes sent cells c (told-of ∙ e) z),
+      least-of-none mask (s .nodes) low fault-of word (λ j. getD words j 0) read-of d e z pos,
+    )
 
-    pub cell-some : (x : ℕ) {cells' : List ℕ} → o ≡ some x → Put place (isGood mask) (λ j. x) (s .nodes) cells cells' → Voted cells'
-    cell-some x {cells'} e p =
-        put-same place (isGood mask) (isGood mask) (λ j. x) (wordAfter votes s mask faults sent cells c) (s .nodes) cells cells' (λ j l. refl)
-        (λ j l t. sym (word-decided s mask faults j votes sent cells c x (told-of ∙ e))) p
+    pub cell-some :
+        (x : ℕ) {a : ℕ} {cells' : List ℕ} → o ≡ some x → Put place (isGood mask) (λ j. x) (s .nodes) cells cells' →
+        a ≡ lesser low (least (isGood mask) (λ i. holders (heardWord s mask faults (λ j. getD words j 0) c i) (s .nodes) x) (s .nodes)) →
+        Voted a cells'
+    unfolding wordAgreement
+    cell-some x {a} {cells'} e p h = (
+      put-same place (isGood mask) (isGood mask) (λ j. x) (wordAfter votes s mask faults sent cells c) (s .nodes) cells cells' (λ j l. refl)
+          (λ j l t. sym (word-decided s mask faults j votes sent cells c x (told-of ∙ e))) p,
+      least-of-decided mask (s .nodes) low fault-of word (λ j. getD words j 0) read-of d x e h,
+    )

@@ -5,18 +5,20 @@ use mathlib.Core.List.{List}
 use mathlib.Core.Option.{Option, none, some, Option·getD}
 use Prim.Native.Nat.{ℕ, suc, _+_, _≤_, _<_}
 use native.Mathlib.Numerals.{add-one}
-use lib.Dec.{ltb}
+use lib.Dec.{eqb, ltb}
 use lib.ListN.{getD}
 use borrow.Author.Tests.{lt-ltb, le-ltb, not-true, not-false}
 use Rattle.array.specs.Bit.{bit}
 use Rattle.array.proofs.BitLaws.{bit-none}
-use Rattle.array.proofs.TestLaws.{split}
+use Rattle.array.proofs.TestLaws.{split, clash}
 use Rattle.plan.specs.declared.Sizes.{Sizes}
-use Rattle.ballot.specs.Majority.{majority, orOwn}
+use Rattle.ballot.specs.Majority.{holds, holders, majority, agreement, orOwn}
 use Rattle.ballot.specs.Code.{packed, Told}
 use Rattle.ballot.proofs.PackedLaws.{packed-in}
 use Rattle.ballot.proofs.BinLaws.{told-majority}
-use Rattle.ballot.proofs.MajorityLaws.{majority-same, majority-heard, no-some}
+use Rattle.ballot.proofs.ScanLaws.{holders-hit, holders-miss}
+use Rattle.ballot.proofs.MajorityLaws.{holds-true, some-holds, holders-same, majority-same, majority-heard, no-some}
+use Rattle.ballot.proofs.AgreementLaws.{agreement-same}
 use Rattle.memory.specs.Node.{counterFrom, cellFrom}
 use Rattle.system.specs.Fault.{faultMessageAt}
 use Rattle.rows.specs.Code.{wordPlace}
@@ -31,6 +33,18 @@ good-none mask w j t = rw (not-false (bit mask j) t)
 
 pub good-some : (mask : ℕ) (w : ℕ → ℕ) (j : ℕ) → isGood mask j ≡ true → goodOnly mask w j ≡ some (w j)
 good-some mask w j t = rw (not-true (bit mask j) t)
+
+-- the good nodes that hold a value, counted one by one
+module _ (mask : ℕ) (w : ℕ → ℕ) (j x : ℕ) {b : Bool} {r : ℕ} (e : b ≡ bit mask j) (h : r ≡ holders (goodOnly mask w) j x) where
+  good-holds : {t : Bool} → (not b && eqb (w j) x) ≡ t → holds (goodOnly mask w j) x ≡ t
+  unfolding holds
+  good-holds = split (bit mask j) (λ u. rw (e, u) (λ q. q)) (λ u. rw (e, u) (λ q. q))
+
+  pub good-counted : (not b && eqb (w j) x) ≡ true → r + 1 ≡ holders (goodOnly mask w) (j + 1) x
+  good-counted t = holders-hit (goodOnly mask w) j (holds-true (goodOnly mask w j) x (good-holds t)) h
+
+  pub good-passed : (not b && eqb (w j) x) ≡ false → r ≡ holders (goodOnly mask w) (j + 1) x
+  good-passed t = holders-miss (goodOnly mask w) j (λ q. clash (some-holds x q) (good-holds t)) h
 
 -- what is heard of a bad node, and of a good one, by a test of its bit
 module _ (fault : Option ℕ) (w : ℕ) {b bad : Bool} (e : b ≡ bad) where
@@ -51,8 +65,11 @@ module _ (mask n : ℕ) (w u : ℕ → ℕ) (e : (j : ℕ) → j < n → w j ≡
   pub heard-same : (fault : ℕ → Option ℕ) → majority (heardOf mask fault w) n ≡ majority (heardOf mask fault u) n
   heard-same fault = majority-same (heardOf mask fault w) (heardOf mask fault u) n (λ j l. rw (e j l))
 
+  pub heard-agreement : (fault : ℕ → Option ℕ) → agreement (heardOf mask fault w) n ≡ agreement (heardOf mask fault u) n
+  heard-agreement fault = agreement-same (heardOf mask fault w) (heardOf mask fault u) n (λ j l. rw (e j l))
+
 module _ (mask n : ℕ) (fault : ℕ → Option ℕ) (w : ℕ → ℕ) where
-  good-heard : (j v : ℕ) → goodOnly mask w j ≡ some v → heardOf mask fault w j ≡ some v
+  pub good-heard : (j v : ℕ) → goodOnly mask w j ≡ some v → heardOf mask fault w j ≡ some v
   good-heard j v = split (bit mask j) (λ t. rw t (λ e. absurd (no-some e))) (λ t. rw t (λ e. e))
 
   -- what more than half sent as good nodes is heard by all, whatever the others say
@@ -144,8 +161,15 @@ pub sent-read :
 sent-read votes sent cells c j e a h = sym (h ∙ rw (e, a, add-one j))
 
 -- with no bad node the words as they stand are the good ones'
-pub good-alone : (mask n : ℕ) (words : List ℕ) → mask ≡ 0 → majority (packed words n) n ≡ majority (goodOnly mask (λ j. getD words j 0)) n
-good-alone mask n words z = majority-same (packed words n) (goodOnly mask (λ j. getD words j 0)) n (λ j l. packed-in words n j l ∙ rw (z, bit-none j))
+module _ (mask n : ℕ) (words : List ℕ) (z : mask ≡ 0) where
+  all-good : (j : ℕ) → j < n → packed words n j ≡ goodOnly mask (λ k. getD words k 0) j
+  all-good j l = packed-in words n j l ∙ rw (z, bit-none j)
+
+  pub good-alone : majority (packed words n) n ≡ majority (goodOnly mask (λ j. getD words j 0)) n
+  good-alone = majority-same (packed words n) (goodOnly mask (λ j. getD words j 0)) n all-good
+
+  pub holders-alone : (x : ℕ) → holders (packed words n) n x ≡ holders (goodOnly mask (λ j. getD words j 0)) n x
+  holders-alone x = holders-same (packed words n) (goodOnly mask (λ j. getD words j 0)) n x all-good
 
 -- what a receiver takes of values that it counted, where its own is as it was
 module _ (bin : ℕ → Option ℕ) (n : ℕ) (values : List ℕ) {voted : Option ℕ} {now old : ℕ} (told : Told bin n values) (counted : voted ≡ majority (packed values n) n) (still : now ≡ old) where

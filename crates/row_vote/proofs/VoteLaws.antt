@@ -21,9 +21,9 @@ use Rattle.memory.specs.Node.{cellFrom}
 use Rattle.system.specs.Fault.{faultMessageAt}
 use Rattle.rows.specs.Code.{wordCount, wordPlace, rowOf, memoryIn, Through}
 use Rattle.rows.proofs.RowLaws.{row-at, row-length, row-same, memory-eq}
-use Rattle.row_vote.specs.Code.{Put, frameBefore, votedAt, isGood, goodOnly, sentWord, agreedFrame, votedBy, heardCounter, heardWord, counterAfter, takes, wordAfter, sentFrame, votedRow, votedWord}
+use Rattle.row_vote.specs.Code.{Put, frameBefore, votedAt, isGood, goodOnly, sentWord, agreedFrame, votedBy, heardCounter, heardWord, counterAfter, takes, wordAfter, wordAgreement, sentFrame, votedRow, votedWord}
 use Rattle.row_vote.proofs.PutLaws.{put-idle}
-use Rattle.row_vote.proofs.HeardLaws.{heard-same, counter-settled}
+use Rattle.row_vote.proofs.HeardLaws.{heard-same, heard-agreement, counter-settled}
 
 -- ---- the frame that is agreed
 
@@ -41,7 +41,7 @@ module _ (frames : ℕ) {o : Option ℕ} where
   agreed-above x e l = rw (e, le-ltb x frames l)
 
 -- a frame is agreed only where a counter that is one is decided
-agreed-some : (frames : ℕ) (o : Option ℕ) {r : ℕ} → r ≡ agreedFrame frames o → r < mostFrames → (x : ℕ) × (o ≡ some x) × (x < frames) × (r ≡ frameBefore frames x)
+pub agreed-some : (frames : ℕ) (o : Option ℕ) {r : ℕ} → r ≡ agreedFrame frames o → r < mostFrames → (x : ℕ) × (o ≡ some x) × (x < frames) × (r ≡ frameBefore frames x)
 unfolding agreedFrame
 agreed-some frames none e l = absurd (omega arith)
 agreed-some frames (some x) {r} e l =
@@ -115,6 +115,11 @@ module _ (votes : List Bool) (s : Sizes) (mask : ℕ) (faults : List ℕ) (sent 
           column-still (suc i),
           heard-same mask (s .nodes) (sentWord votes sent now c) (sentWord votes sent cells c) (λ j k. rw (column-still (suc j))) (λ j. cellFrom faults c (faultMessageAt s j i)),
         )
+
+    pub agreement-still : (i : ℕ) → wordAgreement votes s mask faults sent now c i ≡ wordAgreement votes s mask faults sent cells c i
+    unfolding wordAgreement
+    agreement-still i =
+        heard-agreement mask (s .nodes) (sentWord votes sent now c) (sentWord votes sent cells c) (λ j k. rw (column-still (suc j))) (λ j. cellFrom faults c (faultMessageAt s j i))
 
     module _ (next : List ℕ) (p : Put (λ i. wordPlace (suc i) c) (takes votes mask frame c) (wordAfter votes s mask faults sent now c) (s .nodes) now next) where
       -- a word of another column, or of no node's row

@@ -6,12 +6,12 @@ use mathlib.Core.Option.{Option, none, some, Option·getD}
 use Prim.Native.Nat.{ℕ, zero, suc, _+_, _-_, _%_, _<_}
 use lib.Dec.{ltb}
 use lib.ListN.{length, getD}
-use Rattle.array.specs.Index.{fill}
+use Rattle.array.specs.Index.{fill, lesser, least}
 use Rattle.array.specs.Bit.{bit}
 use Rattle.plan.specs.declared.Sizes.{Sizes}
 use Rattle.plan.specs.Limits.{mostFrames}
 use Rattle.plan.specs.Known.{votePlace}
-use Rattle.ballot.specs.Majority.{majority, orOwn}
+use Rattle.ballot.specs.Majority.{majority, agreement, orOwn}
 use Rattle.memory.specs.declared.Memory.{Memory}
 use Rattle.memory.specs.Node.{counterFrom, cellFrom}
 use Rattle.system.specs.Fault.{faultMessageAt}
@@ -70,7 +70,7 @@ votedBy votes s counters words m =
           (m .cells);
     }
 
--- what node i hears of the counters, whose words are `word`, and of cell c; its counter after the vote
+-- what node i hears of the counters, whose words are `word`, and of cell c; its counter after the vote, and its agreement on it
 module _ (s : Sizes) (mask : ℕ) (faults : List ℕ) where
   abbrev pub heardCounter : (ℕ → ℕ) → ℕ → ℕ → Option ℕ
   heardCounter word i = heardOf mask (λ j. counterFrom faults (faultMessageAt s j i)) word
@@ -82,6 +82,9 @@ module _ (s : Sizes) (mask : ℕ) (faults : List ℕ) where
   counterAfter counters i =
       orOwn (s .frames) (getD counters (suc i) 0) (majority (heardCounter (λ j. getD counters (suc j) 0) i) (s .nodes))
 
+  unfoldable pub counterAgreement : List ℕ → ℕ → ℕ
+  counterAgreement counters i = agreement (heardCounter (λ j. getD counters (suc j) 0) i) (s .nodes)
+
 -- whether node i, who votes in frame `frame i`, votes on cell c: bad nodes do not vote
 abbrev pub takes : List Bool → ℕ → (ℕ → ℕ) → ℕ → ℕ → Bool
 takes votes mask frame c i = isGood mask i && votedAt votes (frame i) c
@@ -91,6 +94,10 @@ module _ (votes : List Bool) (s : Sizes) (mask : ℕ) (faults : List ℕ) where
   unfoldable pub wordAfter : (ℕ → ℕ) → List ℕ → ℕ → ℕ → ℕ
   wordAfter sent cells c i =
       Option·getD (majority (heardWord s mask faults (sentWord votes sent cells c) c i) (s .nodes)) (getD cells (wordPlace (suc i) c) 0)
+
+  -- and its agreement on it
+  unfoldable pub wordAgreement : (ℕ → ℕ) → List ℕ → ℕ → ℕ → ℕ
+  wordAgreement sent cells c i = agreement (heardWord s mask faults (sentWord votes sent cells c) c i) (s .nodes)
 
   -- row q after the vote, by the rows before it
   module _ (counters cells : List ℕ) where
@@ -103,9 +110,20 @@ module _ (votes : List Bool) (s : Sizes) (mask : ℕ) (faults : List ℕ) where
         cond (bit mask i) m
         (votedBy votes s (heardCounter s mask faults (λ j. getD counters (suc j) 0) i) (λ c. heardWord s mask faults (sentWord votes sentFrame cells c) c i) m)
 
+    -- node i's agreement, by the rows before the vote
+    unfoldable pub rowAgreement : ℕ → ℕ
+    rowAgreement i =
+        lesser (counterAgreement s mask faults counters i)
+        (least (votedAt votes (frameBefore (s .frames) (counterAfter s mask faults counters i))) (λ c. wordAgreement sentFrame cells c i) (s .cells))
+
   -- what stands in row q at column d once the first k columns are voted
   module _ (sent frame : ℕ → ℕ) (cells : List ℕ) where
     unfoldable pub votedWord : ℕ → ℕ → ℕ → ℕ
     votedWord k zero d = getD cells (wordPlace 0 d) 0
     votedWord k (suc i) d =
         cond (ltb d k && (ltb i (s .nodes) && takes votes mask frame d i)) (wordAfter sent cells d i) (getD cells (wordPlace (suc i) d) 0)
+
+    -- the least of `low` and of the agreements on the first k columns of the nodes that vote on them
+    unfoldable pub columnsLeast : ℕ → ℕ → ℕ
+    columnsLeast low zero = low
+    columnsLeast low (suc k) = lesser (columnsLeast low k) (least (takes votes mask frame k) (wordAgreement sent cells k) (s .nodes))

@@ -5,12 +5,14 @@ ghost use mathlib.Core.Bool.{true, cond};
 ghost use mathlib.Core.Option.{some, Option·getD};
 ghost use Prim.Native.Nat.{ℕ, suc, _+_, _<_, _≤_};
 ghost use lib.ListN.{length, getD};
+ghost use Rattle.array.specs.Index.{allBelow, lesser, least};
+ghost use Rattle.array.specs.Bit.{bit};
 ghost use Rattle.plan.specs.Limits.{mostNodes, mostFrames, mostCells};
-ghost use Rattle.ballot.specs.Majority.{orOwn, majority as majorityOf, votedValue};
+ghost use Rattle.ballot.specs.Majority.{holders as holdersOf, agreement, orOwn, majority as majorityOf, votedValue};
 ghost use Rattle.ballot.specs.Code.{packed as packedIn, Told};
 ghost use Rattle.faults.specs.Code.{Small, Parts};
 ghost use Rattle.rows.specs.Code.{rowCount, wordCount, wordPlace, Through};
-ghost use Rattle.row_vote.specs.Code.{Put, frameBefore, votedAt, isGood, goodOnly, sentWord, agreedFrame, heardCounter, heardWord, counterAfter, wordAfter, votedRow, takes, votedWord};
+ghost use Rattle.row_vote.specs.Code.{Put, frameBefore, votedAt, isGood, goodOnly, sentWord, agreedFrame, heardCounter, heardWord, counterAfter, counterAgreement, takes, wordAfter, wordAgreement, votedRow, rowAgreement, votedWord, columnsLeast};
 use ballot::Voted;
 use plan::Plan;
 use plan::Sizes;
@@ -40,7 +42,7 @@ struct Good {
 
 fn good_ones(words: &[u64; System::NODES], nodes: usize, mask: u64) -> Good
     requires { ⌜ nodes ≤ mostNodes ⌝ }
-    ensures { λ r. ⌜ (r .count ≤ nodes) × (majorityOf (packedIn (r .words) (r .count)) nodes ≡ majorityOf (goodOnly mask (λ j. getD (now (words .entry)) j 0)) nodes) ⌝ }
+    ensures { λ r. ⌜ (r .count ≤ nodes) × ((v : ℕ) → holdersOf (packedIn (r .words) (r .count)) (r .count) v ≡ holdersOf (goodOnly mask (λ j. getD (now (words .entry)) j 0)) nodes v) ⌝ }
 {
     let mut good = [0u64; System::NODES];
     let mut k: usize = 0;
@@ -68,6 +70,25 @@ fn decided(words: &[u64; System::NODES], nodes: usize, mask: u64) -> Voted
     }
     let good = good_ones(words, nodes, mask);
     ballot::step::majority(&good.words, good.count, nodes)
+}
+
+// How many good nodes sent a value.
+fn good_holders(words: &[u64; System::NODES], nodes: usize, mask: u64, x: u64) -> usize
+    requires { ⌜ nodes ≤ mostNodes ⌝ }
+    ensures { λ r. ⌜ r ≡ holdersOf (goodOnly mask (λ j. getD (now (words .entry)) j 0)) nodes x ⌝ }
+{
+    if mask == 0 {
+        return ballot::step::holders(words, nodes, x);
+    }
+    let mut held: usize = 0;
+    let mut j: usize = 0;
+    while j < nodes {
+        if !counts::step::is_bad(mask, j) & (words[j] == x) {
+            held += 1;
+        }
+        j += 1;
+    }
+    held
 }
 
 // ---- the counters
@@ -116,31 +137,65 @@ fn counters_heard(
     all
 }
 
-// Each good receiver counts for itself.
+// Each good receiver counts for itself; what is given is the least of `low` and their agreements.
 fn counters_each(
     s: Sizes,
     mask: u64,
     faults: &[u8],
     words: &[u64; System::NODES],
     counters: &mut [u16],
-)
+    low: usize,
+) -> usize
     requires { ⌜ Small s × (s .frames ≤ mostFrames) × Parts s mask (length (now faults)) × (length (now counters) ≡ rowCount) ⌝ }
-    ensures { λ _. ⌜ Put suc (isGood mask) (λ i. orOwn (s .frames) (getD (now (counters .entry)) (suc i) 0) (majorityOf (heardCounter s mask (now (faults .entry)) (λ j. getD (now (words .entry)) j 0) i) (s .nodes))) (s .nodes) (now (counters .entry)) (now (counters .exit)) ⌝ }
+    ensures { λ r. ⌜ Put suc (isGood mask) (λ i. orOwn (s .frames) (getD (now (counters .entry)) (suc i) 0) (majorityOf (heardCounter s mask (now (faults .entry)) (λ j. getD (now (words .entry)) j 0) i) (s .nodes))) (s .nodes) (now (counters .entry)) (now (counters .exit)) × (r ≡ lesser low (least (isGood mask) (λ i. agreement (heardCounter s mask (now (faults .entry)) (λ j. getD (now (words .entry)) j 0) i) (s .nodes)) (s .nodes))) ⌝ }
 {
     let nodes = s.nodes;
     let frames = s.frames;
+    let mut agreed = low;
     let mut i: usize = 0;
     while i < nodes {
         if !counts::step::is_bad(mask, i) {
             let all = counters_heard(s, mask, faults, i, words);
-            counters[i + 1] = ballot::step::or_own(
-                frames,
-                counters[i + 1],
-                ballot::step::majority(&all, nodes, nodes),
-            );
+            let v = ballot::step::majority(&all, nodes, nodes);
+            counters[i + 1] = ballot::step::or_own(frames, counters[i + 1], v);
+            agreed = ballot::step::min(agreed, ballot::step::agreement(&all, nodes, v));
         }
         i += 1;
     }
+    agreed
+}
+
+// The least of `low` and of how many hold x as each good receiver hears it. None hears of fewer than sent it as good nodes, so the count ends where the least
+// is down to these.
+fn counter_agreed(
+    s: Sizes,
+    mask: u64,
+    faults: &[u8],
+    words: &[u64; System::NODES],
+    x: u64,
+    low: usize,
+) -> usize
+    requires { ⌜ Small s × (0 < s .nodes) × Parts s mask (length (now faults)) ⌝ }
+    ensures { λ r. ⌜ r ≡ lesser low (least (isGood mask) (λ i. holdersOf (heardCounter s mask (now (faults .entry)) (λ j. getD (now (words .entry)) j 0) i) (s .nodes) x) (s .nodes)) ⌝ }
+{
+    let nodes = s.nodes;
+    let held = good_holders(words, nodes, mask, x);
+    if mask == 0 {
+        return ballot::step::min(low, held);
+    }
+    let mut agreed = low;
+    let mut i: usize = 0;
+    while i < nodes {
+        if agreed <= held {
+            break;
+        }
+        if !counts::step::is_bad(mask, i) {
+            let told = counters_heard(s, mask, faults, i, words);
+            agreed = ballot::step::min(agreed, ballot::step::holders(&told, nodes, x));
+        }
+        i += 1;
+    }
+    agreed
 }
 
 fn settle_counters(nodes: usize, mask: u64, counter: u16, counters: &mut [u16])
@@ -156,26 +211,44 @@ fn settle_counters(nodes: usize, mask: u64, counter: u16, counters: &mut [u16])
     }
 }
 
-// The counters after the vote; what is given is the frame in which all good nodes vote, or no frame.
-fn vote_counter(s: Sizes, mask: u64, faults: &[u8], counters: &mut [u16]) -> usize
-    requires { ⌜ Small s × (0 < s .frames) × (s .frames ≤ mostFrames) × Parts s mask (length (now faults)) × (length (now counters) ≡ rowCount) ⌝ }
-    ensures { λ r. ⌜ (r ≡ agreedFrame (s .frames) (majorityOf (goodOnly mask (λ j. getD (now (counters .entry)) (suc j) 0)) (s .nodes))) × Put suc (isGood mask) (counterAfter s mask (now (faults .entry)) (now (counters .entry))) (s .nodes) (now (counters .entry)) (now (counters .exit)) ⌝ }
+// The frame in which all good nodes vote, or no frame; and the least of their agreements on the counter.
+struct Polled {
+    frame: usize,
+    agreement: usize,
+}
+
+// The counters after the vote.
+fn vote_counter(s: Sizes, mask: u64, faults: &[u8], counters: &mut [u16]) -> Polled
+    requires { ⌜ Small s × (0 < s .nodes) × (0 < s .frames) × (s .frames ≤ mostFrames) × Parts s mask (length (now faults)) × (length (now counters) ≡ rowCount) ⌝ }
+    ensures { λ r. ⌜ (r .frame ≡ agreedFrame (s .frames) (majorityOf (goodOnly mask (λ j. getD (now (counters .entry)) (suc j) 0)) (s .nodes))) × Put suc (isGood mask) (counterAfter s mask (now (faults .entry)) (now (counters .entry))) (s .nodes) (now (counters .entry)) (now (counters .exit)) × (r .agreement ≡ lesser (s .nodes) (least (isGood mask) (counterAgreement s mask (now (faults .entry)) (now (counters .entry))) (s .nodes))) ⌝ }
 {
     let nodes = s.nodes;
     let frames = s.frames;
     let words = counter_words(counters, nodes);
     let Voted::Value(x) = decided(&words, nodes, mask) else {
         if mask != 0 {
-            counters_each(s, mask, faults, &words, counters);
+            let least = counters_each(s, mask, faults, &words, counters, nodes);
+            return Polled {
+                frame: Plan::FRAMES,
+                agreement: least,
+            };
         }
-        return Plan::FRAMES;
+        return Polled {
+            frame: Plan::FRAMES,
+            agreement: 0,
+        };
     };
+    let agreement = counter_agreed(s, mask, faults, &words, x, nodes);
     if x < frames as u64 {
         let counter = x as u16;
         settle_counters(nodes, mask, counter, counters);
-        return memory::step::frame_before(counter, frames);
+        let frame = memory::step::frame_before(counter, frames);
+        return Polled { frame, agreement };
     }
-    Plan::FRAMES
+    Polled {
+        frame: Plan::FRAMES,
+        agreement,
+    }
 }
 
 // ---- one cell
@@ -236,7 +309,7 @@ fn cells_heard(
     all
 }
 
-// Each good receiver that votes on the cell counts for itself.
+// Each good receiver that votes on the cell counts for itself; what is given is the least of `low` and their agreements.
 fn cell_each(
     voted: &[bool; Plan::VOTES],
     s: Sizes,
@@ -246,21 +319,59 @@ fn cell_each(
     words: &[u64; System::NODES],
     cells: &mut [u64],
     c: usize,
-)
+    low: usize,
+) -> usize
     requires { ⌜ Small s × Parts s mask (length (now faults)) × (c < s .cells) × (length (now cells) ≡ wordCount) × ((j : ℕ) → j < s .nodes → getD (now frames) j 0 < mostFrames) ⌝ }
-    ensures { λ _. ⌜ Put (λ i. wordPlace (suc i) c) (takes (now (voted .entry)) mask (λ i. getD (now (frames .entry)) i 0) c) (λ i. Option·getD (majorityOf (heardWord s mask (now (faults .entry)) (λ j. getD (now (words .entry)) j 0) c i) (s .nodes)) (getD (now (cells .entry)) (wordPlace (suc i) c) 0)) (s .nodes) (now (cells .entry)) (now (cells .exit)) ⌝ }
+    ensures { λ r. ⌜ Put (λ i. wordPlace (suc i) c) (takes (now (voted .entry)) mask (λ i. getD (now (frames .entry)) i 0) c) (λ i. Option·getD (majorityOf (heardWord s mask (now (faults .entry)) (λ j. getD (now (words .entry)) j 0) c i) (s .nodes)) (getD (now (cells .entry)) (wordPlace (suc i) c) 0)) (s .nodes) (now (cells .entry)) (now (cells .exit)) × (r ≡ lesser low (least (takes (now (voted .entry)) mask (λ i. getD (now (frames .entry)) i 0) c) (λ i. agreement (heardWord s mask (now (faults .entry)) (λ j. getD (now (words .entry)) j 0) c i) (s .nodes)) (s .nodes))) ⌝ }
 {
     let nodes = s.nodes;
+    let mut agreed = low;
     let mut i: usize = 0;
     while i < nodes {
         let g = frames[i];
         if !counts::step::is_bad(mask, i) & plan::step::is_voted(voted, g, c) {
             let all = cells_heard(s, mask, faults, i, c, words);
+            let v = ballot::step::majority(&all, nodes, nodes);
             let at = rows::step::word_place(i + 1, c);
-            cells[at] = ballot::step::or_old(ballot::step::majority(&all, nodes, nodes), cells[at]);
+            cells[at] = ballot::step::or_old(v, cells[at]);
+            agreed = ballot::step::min(agreed, ballot::step::agreement(&all, nodes, v));
         }
         i += 1;
     }
+    agreed
+}
+
+// The least of `low` and of how many hold x of the cell as each good receiver hears it.
+fn cell_agreed(
+    s: Sizes,
+    mask: u64,
+    faults: &[u8],
+    words: &[u64; System::NODES],
+    c: usize,
+    x: u64,
+    low: usize,
+) -> usize
+    requires { ⌜ Small s × (0 < s .nodes) × Parts s mask (length (now faults)) × (c < s .cells) ⌝ }
+    ensures { λ r. ⌜ r ≡ lesser low (least (isGood mask) (λ i. holdersOf (heardWord s mask (now (faults .entry)) (λ j. getD (now (words .entry)) j 0) c i) (s .nodes) x) (s .nodes)) ⌝ }
+{
+    let nodes = s.nodes;
+    let held = good_holders(words, nodes, mask, x);
+    if mask == 0 {
+        return ballot::step::min(low, held);
+    }
+    let mut agreed = low;
+    let mut i: usize = 0;
+    while i < nodes {
+        if agreed <= held {
+            break;
+        }
+        if !counts::step::is_bad(mask, i) {
+            let told = cells_heard(s, mask, faults, i, c, words);
+            agreed = ballot::step::min(agreed, ballot::step::holders(&told, nodes, x));
+        }
+        i += 1;
+    }
+    agreed
 }
 
 fn hand_to_all(nodes: usize, mask: u64, cells: &mut [u64], c: usize, x: u64)
@@ -287,20 +398,22 @@ fn vote_cell(
     one: usize,
     cells: &mut [u64],
     c: usize,
-)
-    requires { ⌜ Small s × Parts s mask (length (now faults)) × (c < s .cells) × (length (now cells) ≡ wordCount) × ((j : ℕ) → j < s .nodes → getD (now sent) j 0 < mostFrames) × (one < mostFrames) × (votedAt (now voted) one c ≡ true) ⌝ }
-    ensures { λ _. ⌜ Put (λ i. wordPlace (suc i) c) (isGood mask) (wordAfter (now (voted .entry)) s mask (now (faults .entry)) (λ j. getD (now (sent .entry)) j 0) (now (cells .entry)) c) (s .nodes) (now (cells .entry)) (now (cells .exit)) ⌝ }
+    low: usize,
+) -> usize
+    requires { ⌜ Small s × (0 < s .nodes) × Parts s mask (length (now faults)) × (c < s .cells) × (length (now cells) ≡ wordCount) × ((j : ℕ) → j < s .nodes → getD (now sent) j 0 < mostFrames) × (one < mostFrames) × (votedAt (now voted) one c ≡ true) ⌝ }
+    ensures { λ r. ⌜ Put (λ i. wordPlace (suc i) c) (isGood mask) (wordAfter (now (voted .entry)) s mask (now (faults .entry)) (λ j. getD (now (sent .entry)) j 0) (now (cells .entry)) c) (s .nodes) (now (cells .entry)) (now (cells .exit)) × (r ≡ lesser low (least (isGood mask) (wordAgreement (now (voted .entry)) s mask (now (faults .entry)) (λ j. getD (now (sent .entry)) j 0) (now (cells .entry)) c) (s .nodes))) ⌝ }
 {
     let nodes = s.nodes;
     let words = sent_words(voted, nodes, sent, cells, c);
     let Voted::Value(x) = decided(&words, nodes, mask) else {
         if mask != 0 {
             let frames = [one; System::NODES];
-            cell_each(voted, s, mask, faults, &frames, &words, cells, c);
+            return cell_each(voted, s, mask, faults, &frames, &words, cells, c, low);
         }
-        return;
+        return 0;
     };
     hand_to_all(nodes, mask, cells, c, x);
+    cell_agreed(s, mask, faults, &words, c, x, low)
 }
 
 fn vote_one(
@@ -311,18 +424,21 @@ fn vote_one(
     sent: &[usize; System::NODES],
     one: usize,
     cells: &mut [u64],
-)
-    requires { ⌜ Small s × Parts s mask (length (now faults)) × (length (now cells) ≡ wordCount) × ((j : ℕ) → j < s .nodes → getD (now sent) j 0 < mostFrames) × (one < mostFrames) ⌝ }
-    ensures { λ _. ⌜ ((q d : ℕ) → d < mostCells → getD (now (cells .exit)) (wordPlace q d) 0 ≡ votedWord (now (voted .entry)) s mask (now (faults .entry)) (λ j. getD (now (sent .entry)) j 0) (λ i. one) (now (cells .entry)) (s .cells) q d) ⌝ }
+    low: usize,
+) -> usize
+    requires { ⌜ Small s × (0 < s .nodes) × Parts s mask (length (now faults)) × (length (now cells) ≡ wordCount) × ((j : ℕ) → j < s .nodes → getD (now sent) j 0 < mostFrames) × (one < mostFrames) ⌝ }
+    ensures { λ r. ⌜ ((q d : ℕ) → d < mostCells → getD (now (cells .exit)) (wordPlace q d) 0 ≡ votedWord (now (voted .entry)) s mask (now (faults .entry)) (λ j. getD (now (sent .entry)) j 0) (λ i. one) (now (cells .entry)) (s .cells) q d) × (r ≡ columnsLeast (now (voted .entry)) s mask (now (faults .entry)) (λ j. getD (now (sent .entry)) j 0) (λ i. one) (now (cells .entry)) low (s .cells)) ⌝ }
 {
     let count = s.cells;
+    let mut agreed = low;
     let mut c: usize = 0;
     while c < count {
         if plan::step::is_voted(voted, one, c) {
-            vote_cell(voted, s, mask, faults, sent, one, cells, c);
+            agreed = vote_cell(voted, s, mask, faults, sent, one, cells, c, agreed);
         }
         c += 1;
     }
+    agreed
 }
 
 // ---- where it is not, each good node votes in a frame of its own
@@ -335,20 +451,38 @@ fn vote_each(
     sent: &[usize; System::NODES],
     frames: &[usize; System::NODES],
     cells: &mut [u64],
-)
+    low: usize,
+) -> usize
     requires { ⌜ Small s × Parts s mask (length (now faults)) × (length (now cells) ≡ wordCount) × ((j : ℕ) → j < s .nodes → getD (now sent) j 0 < mostFrames) × ((j : ℕ) → j < s .nodes → getD (now frames) j 0 < mostFrames) ⌝ }
-    ensures { λ _. ⌜ ((q d : ℕ) → d < mostCells → getD (now (cells .exit)) (wordPlace q d) 0 ≡ votedWord (now (voted .entry)) s mask (now (faults .entry)) (λ j. getD (now (sent .entry)) j 0) (λ i. getD (now (frames .entry)) i 0) (now (cells .entry)) (s .cells) q d) ⌝ }
+    ensures { λ r. ⌜ ((q d : ℕ) → d < mostCells → getD (now (cells .exit)) (wordPlace q d) 0 ≡ votedWord (now (voted .entry)) s mask (now (faults .entry)) (λ j. getD (now (sent .entry)) j 0) (λ i. getD (now (frames .entry)) i 0) (now (cells .entry)) (s .cells) q d) × (r ≡ columnsLeast (now (voted .entry)) s mask (now (faults .entry)) (λ j. getD (now (sent .entry)) j 0) (λ i. getD (now (frames .entry)) i 0) (now (cells .entry)) low (s .cells)) ⌝ }
 {
     let count = s.cells;
+    let mut agreed = low;
     let mut c: usize = 0;
     while c < count {
         let words = sent_words(voted, s.nodes, sent, cells, c);
-        cell_each(voted, s, mask, faults, frames, &words, cells, c);
+        agreed = cell_each(voted, s, mask, faults, frames, &words, cells, c, agreed);
         c += 1;
     }
+    agreed
 }
 
-// Every good row after the vote.
+// An agreement of the good nodes; 0 where all are bad.
+fn of_good(nodes: usize, mask: u64, agreement: usize) -> usize
+    requires { ⌜ nodes ≤ mostNodes ⌝ }
+    ensures { λ r. ⌜ r ≡ cond (allBelow (λ j. bit mask j) nodes) 0 agreement ⌝ }
+{
+    let mut j: usize = 0;
+    while j < nodes {
+        if !counts::step::is_bad(mask, j) {
+            return agreement;
+        }
+        j += 1;
+    }
+    0
+}
+
+// Every good row after the vote; what is given is the least of the good nodes' agreements, 0 where all are bad.
 pub fn vote(
     voted: &[bool; Plan::VOTES],
     s: Sizes,
@@ -356,16 +490,26 @@ pub fn vote(
     faults: &[u8],
     counters: &mut [u16],
     cells: &mut [u64],
-)
-    requires { ⌜ Small s × (0 < s .frames) × (s .frames ≤ mostFrames) × Parts s mask (length (now faults)) × (length (now counters) ≡ rowCount) × (length (now cells) ≡ wordCount) ⌝ }
-    ensures { λ _. ⌜ Through (s .nodes + 1) (votedRow (now (voted .entry)) s mask (now (faults .entry)) (now (counters .entry)) (now (cells .entry))) (now (counters .entry)) (now (cells .entry)) (now (counters .exit)) (now (cells .exit)) ⌝ }
+) -> usize
+    requires { ⌜ Small s × (0 < s .nodes) × (0 < s .frames) × (s .frames ≤ mostFrames) × Parts s mask (length (now faults)) × (length (now counters) ≡ rowCount) × (length (now cells) ≡ wordCount) ⌝ }
+    ensures { λ r. ⌜ Through (s .nodes + 1) (votedRow (now (voted .entry)) s mask (now (faults .entry)) (now (counters .entry)) (now (cells .entry))) (now (counters .entry)) (now (cells .entry)) (now (counters .exit)) (now (cells .exit)) × (r ≡ Option·getD (least (isGood mask) (rowAgreement (now (voted .entry)) s mask (now (faults .entry)) (now (counters .entry)) (now (cells .entry))) (s .nodes)) 0) ⌝ }
 {
     let sent = frames_before(counters, s.nodes, s.frames);
-    let one = vote_counter(s, mask, faults, counters);
+    let polled = vote_counter(s, mask, faults, counters);
+    let one = polled.frame;
     if one < Plan::FRAMES {
-        vote_one(voted, s, mask, faults, &sent, one, cells);
-        return;
+        return vote_one(voted, s, mask, faults, &sent, one, cells, polled.agreement);
     }
     let frames = frames_before(counters, s.nodes, s.frames);
-    vote_each(voted, s, mask, faults, &sent, &frames, cells);
+    let agreement = vote_each(
+        voted,
+        s,
+        mask,
+        faults,
+        &sent,
+        &frames,
+        cells,
+        polled.agreement,
+    );
+    of_good(s.nodes, mask, agreement)
 }

@@ -25,7 +25,7 @@ use system::System;
 // The longest block of run lines, and of printed ones with the line of a refusal.
 const INPUT: usize = lines::step::BLOCK * 329;
 
-const OUTPUT: usize = lines::step::BLOCK * 177 + lines::step::REFUSAL;
+const OUTPUT: usize = lines::step::BLOCK * 181 + lines::step::REFUSAL;
 
 // More than the longest plan text, so that a longer file is seen to be too long.
 const TEXT: usize = plan_line::Line::TEXT + 1;

@@ -16,8 +16,8 @@ use Rattle.plan_grammar.specs.Refused.{lengthOk, isHeader, afterCells, taskInOr
 use Rattle.answer.specs.Tests.{unlessRefused}
 use Rattle.plan_text.specs.Answers.{readAnswer}
 use Rattle.task.specs.Task.{opValue, runTask, runTasks}
-use Rattle.ballot.specs.Majority.{holds, holders, shared, firstShared, majority, orOwn}
-use Rattle.ballot.specs.Plane.{backing, mostHeld, plane}
+use Rattle.ballot.specs.Majority.{holds, holders, backing, shared, firstShared, majority, orOwn}
+use Rattle.ballot.specs.Plane.{mostHeld, plane}
 use Rattle.memory.specs.Node.{computed, before, sentCell, messageOf, binOf, counterFrom, cellFrom, counterIn, cellIn, votedCounter, votedCell, voted}
 use Rattle.short_table.specs.ShortTable.{linesK, linesTake, planK, planTake, mailbox, countersVoted, cellsVoted, planeOf, late, ShortTable}
 

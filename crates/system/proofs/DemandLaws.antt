@@ -44,7 +44,7 @@ module _ (sys : System) (c : Call) where
 
   -- where no good count is above R, the tests are those of plan record, mask and lengths
   module _ (counts : accepted (c .plan) ≡ true → countsOk (c .plan) sys ≡ true) where
-    runs-frame : runs ≡ isFrame c
+    pub runs-frame : runs ≡ isFrame c
     unfolding passed frameTests isFrame callTests callLengths
     runs-frame = split (accepted (c .plan)) (λ e. rw (counts e, and-true (maskOk (c .plan) (c .mask)))) (λ e. rw e)
 
@@ -61,7 +61,7 @@ call-number c = answered-number (callTests c) (named-by InvalidPlan _, (named-by
 accepted-is : {p : Plan} (c : Call) → (c .plan ≡ p) ⊎ (accepted (c .plan) ≡ false) → accepted (c .plan) ≡ true → c .plan ≡ p
 accepted-is c plan e = ⊎-elim (λ q. q) (λ f. absurd (clash e f)) plan
 
-frame-is : {p : Plan} (c : Call) → (c .plan ≡ p) ⊎ (accepted (c .plan) ≡ false) → isFrame c ≡ true → c .plan ≡ p
+pub frame-is : {p : Plan} (c : Call) → (c .plan ≡ p) ⊎ (accepted (c .plan) ≡ false) → isFrame c ≡ true → c .plan ≡ p
 unfolding passed isFrame callTests
 frame-is c plan e = accepted-is c plan (and-left _ _ e)
 
@@ -202,7 +202,7 @@ masks-past (c ∷ cs) past =
     ∙ sym (append-assoc (masks cs []) (since c []) past)
     ∙ ap (λ (l : List ℕ). l ++ past) (sym (masks-past cs (since c [])))
 
-one-left : (p : Plan) (a b : List Call) → OnePlan p (a ++ b) → OnePlan p a
+pub one-left : (p : Plan) (a b : List Call) → OnePlan p (a ++ b) → OnePlan p a
 unfolding OnePlan
 one-left p [] b one = tt
 one-left p (c ∷ a) b one = (one .0, one-left p a b (one .1))

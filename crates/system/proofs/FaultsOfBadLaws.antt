@@ -1,5 +1,5 @@
 -- Only bad nodes' bytes matter: fault bytes that agree on the parts of the bad nodes give the same frame.
-use mathlib.Core.Path.{_≡_, ap}
+use mathlib.Core.Path.{_≡_, refl, ap}
 use mathlib.Core.Bool.{true}
 use mathlib.Core.List.{List}
 use mathlib.Core.Option.{Option, some, Option·getD}
@@ -10,6 +10,7 @@ use lib.ListN.{getD}
 use Rattle.array.specs.Index.{fill}
 use Rattle.array.specs.Word.{be}
 use Rattle.array.proofs.TestLaws.{split}
+use Rattle.array.proofs.LeastLaws.{least-same}
 use Rattle.array.proofs.PlacesLaws.{fill-same, joined-same, from-same}
 use Rattle.array.proofs.WordLaws.{be-part}
 use Rattle.plan.specs.declared.Plan.{Plan}
@@ -20,7 +21,7 @@ use Rattle.memory.specs.Size.{counterSize, patternSize, cellAt, binBytes}
 use Rattle.ballot.proofs.PlaneLaws.{plane-same}
 use Rattle.system.specs.declared.System.{System}
 use Rattle.system.specs.Fault.{bad, memorySize, messagesSize, setpointSize, faultSize, faultAt, faultMessageAt, faultMemory, faultMessage, faultSetpoint}
-use Rattle.system.specs.Frame.{memoryOf, computedBy, heard, mailboxOf, memoryAfter, putOut, systemAfter, placeAfter}
+use Rattle.system.specs.Frame.{memoryOf, computedBy, heard, mailboxOf, memoryAfter, putOut, systemAfter, placeAfter, agreementBy, frameAgreement}
 use Rattle.system.proofs.FaultLaws.{message-room}
 
 -- bytes that agree on the part of node j
@@ -93,7 +94,13 @@ module _
         fill-same _ _ (p .actuators) place
         (λ a l. ap (λ (o : Option ℕ). Option·getD o 0) (plane-same _ (putOut p sys sensors mask g a) (p .nodes) (λ j h. put-same a j l h)))
 
+    agreement-same : frameAgreement p sys sensors mask f ≡ frameAgreement p sys sensors mask g
+    unfolding frameAgreement agreementBy computedBy
+    agreement-same =
+        ap (λ (o : Option ℕ). Option·getD o 0) (least-same _ _ _ _ (p .nodes) (λ i l. refl) (λ i l t. rw (mailbox-same i l)))
+
     pub faults-of-bad :
         (systemAfter p sys sensors mask f ≡ systemAfter p sys sensors mask g)
         × ((place : List ℕ) → placeAfter p sys sensors mask f place ≡ placeAfter p sys sensors mask g place)
-    faults-of-bad = (system-same, place-same)
+        × (frameAgreement p sys sensors mask f ≡ frameAgreement p sys sensors mask g)
+    faults-of-bad = (system-same, place-same, agreement-same)

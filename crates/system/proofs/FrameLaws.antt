@@ -28,11 +28,12 @@ use Rattle.ballot.proofs.PlaneLaws.{plane-of-most}
 use Rattle.task.proofs.TaskLaws.{Agree, Bounded}
 use Rattle.memory.proofs.MessageLaws.{bin-length}
 use Rattle.memory.proofs.NodeLaws.{memory-same, computed-small, computed-next, computed-length, computed-past, computed-bounded}
-use Rattle.memory.proofs.VoteLaws.{MostHold, most-of-messages, most-counter, most-agree, most-own, frame-agree, vote-length, vote-past, before-computed}
+use Rattle.memory.proofs.AgreementLaws.{holding-agreement}
+use Rattle.memory.proofs.VoteLaws.{Holding, hold-of-messages, MostHold, most-of-holding, most-counter, most-agree, most-own, frame-agree, vote-length, vote-past, before-computed}
 use Rattle.system.specs.declared.System.{System}
 use Rattle.system.specs.Fault.{bad}
 use Rattle.system.specs.Counts.{countAfter, goodAfter}
-use Rattle.system.specs.Frame.{memoryOf, goodOf, computedBy, heard, mailboxOf, memoryAfter, putOut}
+use Rattle.system.specs.Frame.{memoryOf, goodOf, computedBy, heard, mailboxOf, memoryAfter, putOut, agreementBy}
 use Rattle.system.proofs.FaultLaws.{faultMemory-length, faultMemory-past, faultMessage-length}
 use Rattle.system.proofs.RecoveryLaws.{SameRecovery, recovery-sym, known-same, period-same}
 
@@ -137,13 +138,21 @@ module _
     unfolding heard computedBy
     sends i j l w = rw (most .good j l w, most .holds j l w)
 
-    box-most : (i : ℕ) → MostHold p (box i) s′
+    box-hold : (i : ℕ) → Holding p (box i) s′ (howMany (most .work) (p .nodes))
     unfolding mailboxOf
-    box-most i =
+    box-hold i =
         let next : Single p s′ = single-next p shape sensors s patterns single in
-        most-of-messages p shape s′ small (next .bounded)
+        hold-of-messages p shape s′ small (next .bounded)
         (heard p sys sensors mask faults i) (heard-length p sys sensors mask faults i)
-        (most .work) (most .half) (sends i)
+        (most .work) (sends i)
+
+    box-most : (i : ℕ) → MostHold p (box i) s′
+    box-most i = most-of-holding p (box i) s′ (howMany (most .work) (p .nodes)) (most .half) (box-hold i)
+
+    -- each node that votes agrees with at least as many
+    pub agreement-least : (i : ℕ) → howMany (most .work) (p .nodes) ≤ agreementBy p sys sensors mask faults i
+    unfolding agreementBy computedBy
+    agreement-least i = holding-agreement p (run i) (box i) s′ (howMany (most .work) (p .nodes)) small (most .half) (box-hold i)
 
     -- a node with the single's memory has it after the frame
     vote-whole : (i : ℕ) → voted p s′ (box i) ≡ s′

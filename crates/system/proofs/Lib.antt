@@ -7,3 +7,4 @@ pub mod FrameLaws
 pub mod StateLaws
 pub mod DemandLaws
 pub mod NotEmpty
+pub mod AgreementLaws

@@ -9,7 +9,7 @@ use native.Mathlib.Omega.{arith}
 use lib.Dec.{lit<}
 use lib.Ieee.{ofBits, toBits, isNan, add}
 use lib.ListN.{getD, set, take, replicate}
-use Rattle.array.specs.Index.{howMany, allBelow, allIn, fill, joined, from}
+use Rattle.array.specs.Index.{howMany, allBelow, allIn, fill, joined, from, lesser, least}
 use Rattle.array.specs.Word.{be, bytes}
 use Rattle.array.specs.Bit.{bit}
 use Rattle.array.proofs.TestLaws.{clash, and-false-right}
@@ -22,14 +22,15 @@ use Rattle.plan.specs.Known.{unusedTask, votedIn, reads, readsKnown, knowTask, 
 use Rattle.plan.specs.Sizes.{sizesOf}
 use Rattle.plan.specs.Accepted.{headerOk, constantsOk, opOk, taskOk, isZeroTake, isUnused, notFalling, taskEntry, initialEntry, voteEntry, actuatorEntry, entriesOk, opStorable, storable, wellFormed, accepted}
 use Rattle.task.specs.Task.{opValue, runTask, runTasks}
-use Rattle.ballot.specs.Majority.{holds, holders, shared, firstShared, majority, orOwn}
-use Rattle.ballot.specs.Plane.{backing, mostHeld, plane}
-use Rattle.memory.specs.Node.{poweredOn, computed, before, sentCell, messageOf, binOf, counterFrom, cellFrom, counterIn, cellIn, votedCounter, votedCell, voted, setpoint}
+use Rattle.ballot.specs.Majority.{holds, holders, backing, shared, firstShared, majority, agreement, orOwn}
+use Rattle.ballot.specs.Plane.{mostHeld, plane}
+use Rattle.memory.specs.Node.{poweredOn, computed, before, sentCell, messageOf, binOf, counterFrom, cellFrom, counterIn, cellIn, votedCounter, votedCell, voted, voteAgreement, setpoint}
 use Rattle.system.specs.System.{powerOn}
 use Rattle.system.specs.Fault.{faultMemory, faultMessage, faultSetpoint}
 use Rattle.system.specs.Counts.{countAfter, goodAfter}
-use Rattle.system.specs.Frame.{memoryOf, computedBy, heard, mailboxOf, memoryAfter, putOut, systemAfter, placeAfter, maskOk, countsOk, lengthsOk, frameTests, frameAnswer, framePlace, singlePlace}
+use Rattle.system.specs.Frame.{memoryOf, computedBy, heard, mailboxOf, memoryAfter, putOut, systemAfter, placeAfter, agreementBy, frameAgreement, maskOk, countsOk, lengthsOk, frameTests, frameAnswer, framePlace, singlePlace}
 use Rattle.system.specs.Demand.{Call, callLengths, callTests, callAnswer, isFrame, next, answers, places, finally, singleNext, singlePlaces, singleFinally, callAnswers, masks, goodIn, MostGood, Premise, OnePlan, Tolerated}
+use Rattle.system.specs.Agreement.{agreements}
 use Rattle.system.proofs.DemandLaws.{demand3}
 
 -- ---- plan K
@@ -205,6 +206,41 @@ mixed-good = rw planK-accepted refl
 pub mixed-memory : memoryOf (finally (powerOn planK) mixed) 0 ≡ singleFinally (poweredOn planK) mixed
 unfolding planK plan
 mixed-memory = demand3 planK planK-accepted mixed mixed-plan mixed-premise .memories 0 (lit< tt) mixed-good
+
+-- ---- agreements
+
+silence : List ℕ
+silence = replicate 240 0
+
+-- node 1 is bad, and left with the counter of the others; then node 0 is, and tells node 1 another counter and node 2 the right one. Nodes 1 and 2 are good,
+-- node 2 alone works
+pub apart : List Call
+apart = call planK 2 (set silence 81 1) 0 (lit< tt) ∷ call planK 1 (set silence 37 1) 0 (lit< tt) ∷ []
+
+-- node 0 is bad, and tells the others the right counter, itself another
+pub alone : List Call
+alone = call planK 1 (set (set silence 37 1) 55 1) 0 (lit< tt) ∷ []
+
+agreed :
+    (agreements (powerOn planK) runK ≡ 3 ∷ 2 ∷ 2 ∷ 2 ∷ 3 ∷ 3 ∷ []) × (agreements (powerOn planK) apart ≡ 2 ∷ 2 ∷ []) × (agreements (powerOn planK) alone ≡ 3 ∷ [])
+unfolding agreements passed ifPassed next frameAnswer frameTests countsOk maskOk lengthsOk runK apart alone call filled silence powerOn poweredOn systemAfter memoryAfter
+    goodAfter countAfter frameAgreement agreementBy voteAgreement agreement lesser least computedBy heard mailboxOf faultMemory faultMessage backing computed messageOf
+    binOf sentCell before voted votedCounter votedCell orOwn counterFrom cellFrom counterIn cellIn majority firstShared shared holders holds runTasks runTask
+    opValue sumOf votedIn howMany fill joined from be bytes bit ofBits toBits isNan add planK plan noVotes period periodTo allKnown known knowFrame
+    knowVoted knowTasks knowTask readsKnown reads allIn allBelow
+agreed = rw planK-accepted (refl, refl, refl)
+
+-- the last column of the listing
+pub runK-agreements : agreements (powerOn planK) runK ≡ 3 ∷ 2 ∷ 2 ∷ 2 ∷ 3 ∷ 3 ∷ []
+runK-agreements = agreed .0
+
+-- the good nodes count, not only those that work: node 1 agrees with 2, node 2 with 3
+pub apart-agreements : agreements (powerOn planK) apart ≡ 2 ∷ 2 ∷ []
+apart-agreements = agreed .1
+
+-- and not the bad ones: node 0 would agree with 2
+pub alone-agreements : agreements (powerOn planK) alone ≡ 3 ∷ []
+alone-agreements = agreed .2
 
 -- ---- outside the premise
 

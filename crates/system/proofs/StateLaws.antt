@@ -2,13 +2,15 @@
 use mathlib.Core.Path.{_≡_, sym, ap, _∙_}
 use mathlib.Core.Bool.{Bool, true, not}
 use mathlib.Core.List.{List, [], _∷_, _++_}
-use Prim.Native.Nat.{ℕ, zero, suc, _+_, _%_, _≤_, _<_, min}
+use Prim.Native.Nat.{ℕ, zero, suc, _+_, _*_, _%_, _≤_, _<_, min}
 use native.Mathlib.Omega.{arith}
 use native.Mathlib.Nat.{add-zero, zero-mod, mod-add-mod, mod-eq-of-lt, mod-lt}
-use lib.Dec.{ltb}
+use lib.Dec.{eqb, ltb}
 use lib.ListN.{length, getD, take, length-append}
-use borrow.Author.Tests.{ltb-true, ltb-false, not-true}
-use Rattle.array.proofs.TestLaws.{split, and-left, and-right}
+use borrow.Author.Tests.{ltb-true, ltb-false, eqb-true, eq-eqb, not-true}
+use Rattle.array.specs.Index.{howMany}
+use Rattle.array.proofs.IndexLaws.{howMany-le}
+use Rattle.array.proofs.TestLaws.{split, and-left, and-right, and-both}
 use Rattle.array.proofs.PlacesLaws.{fill-length, fill-in, fill-same}
 use Rattle.plan.specs.declared.Plan.{Plan}
 use Rattle.plan.specs.Known.{known, period}
@@ -22,12 +24,12 @@ use Rattle.memory.proofs.VoteLaws.{before-next}
 use Rattle.system.specs.declared.System.{System}
 use Rattle.system.specs.System.{zeroSystem, powerOn}
 use Rattle.system.specs.Fault.{bad}
-use Rattle.system.specs.Counts.{goodCount}
-use Rattle.system.specs.Frame.{memoryOf, goodOf, memoryAfter, systemAfter, placeAfter, singlePlace}
+use Rattle.system.specs.Counts.{isWorking, goodCount}
+use Rattle.system.specs.Frame.{memoryOf, goodOf, memoryAfter, systemAfter, placeAfter, agreementBy, singlePlace}
 use Rattle.system.specs.Demand.{goodIn, MostGood}
 use Rattle.system.proofs.RecoveryLaws.{SameRecovery, period-same}
 use Rattle.system.proofs.CountLaws.{count-least, count-since, Counts, counts-start, count-after, counts-after}
-use Rattle.system.proofs.FrameLaws.{Single, single-next, Recovering, Node, node-whole, MostWork, node-after, plane-single, single-same, node-same}
+use Rattle.system.proofs.FrameLaws.{Single, single-next, Recovering, Node, node-whole, MostWork, agreement-least, node-after, plane-single, single-same, node-same}
 
 -- ---- between two calls
 
@@ -64,12 +66,17 @@ state-start p accept =
     counts : Counts p (powerOn p) []
     counts = counts-start p accept
 
--- a node that was good in the last R frames, or in all if fewer, has the single's memory
+-- a node that was good in the last R frames, or in all if fewer, has the full count, and the single's memory
+full-count :
+    (p : Plan) (sys : System) (s : Memory) (past : List ℕ) → State p sys s past →
+    (i : ℕ) → i < p .nodes → goodIn i (take (period p) past) ≡ true → goodOf sys i ≡ period p
+full-count p sys s past st i l g =
+    omega (arith, st .node i l .most, st .counts .count i l, count-least (period p) i (period p) past (omega arith) g)
+
 pub state-whole :
     (p : Plan) (sys : System) (s : Memory) (past : List ℕ) → State p sys s past →
     (i : ℕ) → i < p .nodes → goodIn i (take (period p) past) ≡ true → memoryOf sys i ≡ s
-state-whole p sys s past st i l g =
-    st .node i l .whole (omega (arith, st .node i l .most, st .counts .count i l, count-least (period p) i (period p) past (omega arith) g))
+state-whole p sys s past st i l g = st .node i l .whole (full-count p sys s past st i l g)
 
 -- ---- a node that was good in the last frames, at least one, and bad in the one before
 
@@ -136,15 +143,32 @@ module _
     (p : Plan) (accept : accepted p ≡ true) (sys : System) (s : Memory) (past : List ℕ) (st : State p sys s past)
     (sensors : List ℕ) (mask : ℕ) (faults : List ℕ) (patterns : Bounded sensors) (good : MostGood p mask past)
   where
-    most-work : MostWork p sys s mask
-    unfolding MostGood goodIn
+    -- a node that is good in it and was in the R frames before it works
+    works : (j : ℕ) → j < p .nodes → goodIn j (mask ∷ take (period p) past) ≡ true → isWorking (period p) mask (sys .good) j ≡ true
+    unfolding isWorking goodIn
+    works j l g =
+        and-both (and-left (not (bad mask j)) (goodIn j (take (period p) past)) g)
+        (eq-eqb _ _ (full-count p sys s past st j l (and-right (not (bad mask j)) _ g)))
+
+    -- more than half work
+    pub most-work : p .nodes < 2 * howMany (isWorking (period p) mask (sys .good)) (p .nodes)
+    unfolding MostGood
     most-work =
+        omega (arith, good, howMany-le (λ j. goodIn j (mask ∷ take (period p) past)) (isWorking (period p) mask (sys .good)) (p .nodes) works)
+
+    working : MostWork p sys s mask
+    unfolding isWorking
+    working =
         record {
-          work = λ j. goodIn j (mask ∷ take (period p) past);
-          good = λ j l w. not-true (bad mask j) (and-left _ (goodIn j (take (period p) past)) w);
-          holds = λ j l w. state-whole p sys s past st j l (and-right (not (bad mask j)) _ w);
-          half = good;
+          work = isWorking (period p) mask (sys .good);
+          good = λ j l w. not-true (bad mask j) (and-left _ (eqb (goodOf sys j) (period p)) w);
+          holds = λ j l w. st .node j l .whole (eqb-true _ _ (and-right (not (bad mask j)) _ w));
+          half = most-work;
         }
+
+    pub agreement-working : (i : ℕ) → howMany (isWorking (period p) mask (sys .good)) (p .nodes) ≤ agreementBy p sys sensors mask faults i
+    unfolding isWorking working
+    agreement-working i = agreement-least p accept sys s sensors mask faults (st .single) patterns working i
 
     memory-after : (i : ℕ) → i < p .nodes → memoryOf (systemAfter p sys sensors mask faults) i ≡ memoryAfter p sys sensors mask faults i
     unfolding systemAfter
@@ -160,7 +184,7 @@ module _
           frames = counter-after p sensors s mask past (st .single .counter) (st .frames);
           node = λ i l.
               rw (memory-after i l, count-after p sys past (st .counts) sensors mask faults i l)
-              (node-after p accept sys s sensors mask faults (st .single) patterns most-work i (st .node i l));
+              (node-after p accept sys s sensors mask faults (st .single) patterns working i (st .node i l));
         }
 
     -- the press gets the single's setpoints
@@ -168,7 +192,7 @@ module _
     unfolding placeAfter singlePlace
     place-after place =
         fill-same _ (setpoint p (computed p sensors s)) (p .actuators) place
-        (λ a l. rw (plane-single p accept sys s sensors mask faults (st .single) patterns most-work a))
+        (λ a l. rw (plane-single p accept sys s sensors mask faults (st .single) patterns working a))
 
 -- ---- a plan with the same recovery
 

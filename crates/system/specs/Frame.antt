@@ -1,18 +1,18 @@
 -- A frame of the whole system under faults, the single controller, and the two counts of the run listing.
-use mathlib.Core.Bool.{Bool, cond, _&&_}
+use mathlib.Core.Bool.{Bool, not, cond, _&&_}
 use mathlib.Core.List.{List, [], _∷_}
 use mathlib.Core.Option.{Option, some, Option·getD}
 use Prim.Native.Nat.{ℕ, _^_}
 use lib.Dec.{eqb, leb, ltb}
 use lib.ListN.{getD, length}
-use Rattle.array.specs.Index.{howMany, allBelow, fill, joined}
+use Rattle.array.specs.Index.{howMany, allBelow, fill, joined, least}
 use Rattle.answer.specs.Tests.{Test, test, answered, ifPassed}
 use Rattle.plan.specs.declared.Plan.{Plan}
 use Rattle.plan.specs.Known.{period}
 use Rattle.plan.specs.Accepted.{accepted}
 use Rattle.memory.specs.declared.Memory.{Memory}
 use Rattle.memory.specs.declared.Outcome.{Outcome}
-use Rattle.memory.specs.Node.{zeroMemory, computed, messageOf, binOf, voted, setpoint}
+use Rattle.memory.specs.Node.{zeroMemory, computed, messageOf, binOf, voted, voteAgreement, setpoint}
 use Rattle.ballot.specs.Plane.{plane}
 use Rattle.plan.specs.Sizes.{sizesOf}
 use Rattle.system.specs.declared.System.{System}
@@ -58,6 +58,14 @@ module _ (p : Plan) (sys : System) (sensors : List ℕ) (mask : ℕ) (faults : L
   unfoldable pub placeAfter : List ℕ → List ℕ
   placeAfter place = fill (λ a. Option·getD (plane (putOut a) (p .nodes)) 0) (p .actuators) place
 
+  -- what node i's vote gives beside its memory
+  unfoldable pub agreementBy : ℕ → ℕ
+  agreementBy i = voteAgreement p (computedBy i) (mailboxOf i)
+
+  -- Request 2026-02: "the least over the good nodes, or 0 if all are bad"
+  unfoldable pub frameAgreement : ℕ
+  frameAgreement = Option·getD (least (λ i. not (bad mask i)) agreementBy (p .nodes)) 0
+
 -- ---- refusals of a frame call: 7, then 9, then 8
 
 -- "9: mask ≥ 2^n, or a good count above R"
@@ -71,7 +79,7 @@ countsOk p sys = allBelow (λ i. leb (goodOf sys i) (period p)) (p .nodes)
 unfoldable pub lengthsOk : Plan → ℕ → ℕ → ℕ → Bool
 lengthsOk p sensors faults place = eqb sensors (p .sensors) && eqb faults (faultsSize (sizesOf p)) && eqb place (p .actuators)
 
--- ---- a frame call, refused or not: its answer with the record, and its place
+-- ---- a frame call, refused or not: its answer with the record and the agreement, and its place
 
 module _ (p : Plan) (sys : System) (sensors : List ℕ) (mask : ℕ) (faults : List ℕ) (place : List ℕ) where
   unfoldable pub frameTests : List Test
@@ -82,7 +90,12 @@ module _ (p : Plan) (sys : System) (sensors : List ℕ) (mask : ℕ) (faults : L
       ∷ []
 
   unfoldable pub frameAnswer : Framed
-  frameAnswer = record { answer = answered frameTests; system = ifPassed frameTests (systemAfter p sys sensors mask faults) sys }
+  frameAnswer =
+      record {
+        answer = answered frameTests;
+        system = ifPassed frameTests (systemAfter p sys sensors mask faults) sys;
+        agreement = ifPassed frameTests (frameAgreement p sys sensors mask faults) 0;
+      }
 
   unfoldable pub framePlace : List ℕ
   framePlace = ifPassed frameTests (placeAfter p sys sensors mask faults place) place

@@ -3,3 +3,4 @@ pub mod Fault
 pub mod Counts
 pub mod Frame
 pub mod Demand
+pub mod Agreement

@@ -22,6 +22,7 @@ pub struct Started {
 pub struct Framed {
     pub answer: Answer,
     pub system: System,
+    pub agreement: usize,
 }
 
 // A count of nodes.

@@ -46,11 +46,11 @@ on-rows-requires c κs =
 
 returns-4 : tie.Need-returns-4
 returns-4 c =
-    let r = c .before .before .before .before .before .before .before .before .before .before .before .before .accepted-period in
-    let a = c .before .before .before .before .before .before .before .before .before .before .before .before .before .before .before .before .args in
-    let ok = accepted-of-period _ (r .ensures) (c .before .before .before .before .before .before .before .before .before .before .before .if1 .left) in
-    let tests = mask-are (a .plan) (a .t2) (a .mask) (r .ensures ∙ accepted-period _ ok) (c .before .before .before .before .before .before .before .before .before .before .mask-ok .ensures) (c .before .before .before .before .before .before .before .counts-ok .ensures) in
-    frame-done _ _ _ _ _ _ ok (passed-test tests (c .before .before .before .before .before .before .if2 .left)) (passed-test (c .before .before .before .before .before .lengths-ok .ensures) (c .before .before .before .before .if3 .left)) (c .before .before .on-rows .ensures)
+    let r = c .before .before .before .before .before .before .before .before .before .before .before .before .before .accepted-period in
+    let a = c .before .before .before .before .before .before .before .before .before .before .before .before .before .before .before .before .before .args in
+    let ok = accepted-of-period _ (r .ensures) (c .before .before .before .before .before .before .before .before .before .before .before .before .if1 .left) in
+    let tests = mask-are (a .plan) (a .t2) (a .mask) (r .ensures ∙ accepted-period _ ok) (c .before .before .before .before .before .before .before .before .before .before .before .mask-ok .ensures) (c .before .before .before .before .before .before .before .before .counts-ok .ensures) in
+    frame-done _ _ _ _ _ _ ok (passed-test tests (c .before .before .before .before .before .before .before .if2 .left)) (passed-test (c .before .before .before .before .before .before .lengths-ok .ensures) (c .before .before .before .before .before .if3 .left)) (c .before .before .before .on-rows .ensures)
 
 pub frame-spec : {M : Type 1} → statement M
 frame-spec =

@@ -16,7 +16,7 @@ frame-requires c κs =
 returns : tie.Need-returns
 returns c =
     let f = c .before .before .before .before .before .before .before .frame .ensures .0 (c .before .before .before .before .before .before .before .before .before .before .before .before .before .before .before .before .before .before .before .before .before .before .before .before .args .system) (c .before .before .before .before .before .before .before .before .before .before .before .before .before .before .before .before .unpack .ensures .0) in
-    (c .pack .ensures _ (f .0), f .1)
+    (c .pack .ensures _ (f .0), f .2, f .1)
 
 pub on-rows-spec : {M : Type 1} → statement M
 on-rows-spec =

@@ -8,10 +8,10 @@ use Rattle.measure.proofs.frame_often.Statement.{statement}
 use Rattle.measure.proofs.frame_often.Tie as tie
 
 abbrev Inv-loop : tie.InvT-loop
-Inv-loop plan times mask sensors₀ faults place₀ system₀ k₀ sensors place system k = (k ≤ times) × (0 < length sensors) × (0 < length place) × (length sensors ≡ length sensors₀) × (length place ≡ length place₀)
+Inv-loop plan times mask sensors₀ faults place₀ system₀ agreed₀ k₀ sensors place system agreed k = (k ≤ times) × (0 < length sensors) × (0 < length place) × (length sensors ≡ length sensors₀) × (length place ≡ length place₀)
 
 abbrev μ-loop : tie.MeasureT-loop
-μ-loop plan times mask sensors₀ faults place₀ system₀ k₀ sensors place system k = times - k
+μ-loop plan times mask sensors₀ faults place₀ system₀ agreed₀ k₀ sensors place system agreed k = times - k
 
 loop-holds : tie.Need-loop-holds Inv-loop μ-loop
 loop-holds c = (search needs, search needs, search needs, refl, refl)

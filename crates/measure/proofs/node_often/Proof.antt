@@ -8,10 +8,10 @@ use Rattle.measure.proofs.node_often.Statement.{statement}
 use Rattle.measure.proofs.node_often.Tie as tie
 
 abbrev Inv-loop : tie.InvT-loop
-Inv-loop plan times sensors₀ bins out₀ frames m₀ k₀ sensors out m k = (k ≤ times) × (0 < length sensors) × (length sensors ≡ length sensors₀) × (length out ≡ length out₀)
+Inv-loop plan times sensors₀ bins out₀ frames m₀ agreed₀ k₀ sensors out m agreed k = (k ≤ times) × (0 < length sensors) × (length sensors ≡ length sensors₀) × (length out ≡ length out₀)
 
 abbrev μ-loop : tie.MeasureT-loop
-μ-loop plan times sensors₀ bins out₀ frames m₀ k₀ sensors out m k = times - k
+μ-loop plan times sensors₀ bins out₀ frames m₀ agreed₀ k₀ sensors out m agreed k = times - k
 
 loop-holds : tie.Need-loop-holds Inv-loop μ-loop
 loop-holds c = (search needs, search needs, refl, refl)

@@ -32,7 +32,7 @@ use Rattle.run.proofs.follow.Tie as tie
 
 abbrev Inv-loop : tie.InvT-loop
 Inv-loop file size bytes run₀ input₀ out₀ held₀ faults₀ run input out held faults =
-    (accepted (run .plan) ≡ true) × (run .period ≡ period (run .plan)) × (run .frame ≤ mostRunLines) × (run .plan ≡ run₀ .plan) × (length input ≡ 42112) × (length out ≡ 22669)
+    (accepted (run .plan) ≡ true) × (run .period ≡ period (run .plan)) × (run .frame ≤ mostRunLines) × (run .plan ≡ run₀ .plan) × (length input ≡ 42112) × (length out ≡ 23181)
     × (length held ≡ mostNodes) × (length faults ≡ 14896) × Held (sizesOf (run .plan)) held (take (bytes - 0) faults)
 
 abbrev μ-loop : tie.MeasureT-loop
@@ -52,7 +52,7 @@ size-requires c κs =
 loop-holds : tie.Need-loop-holds Inv-loop μ-loop
 loop-holds c =
     let z : ℕ = 0 in
-    (c .before .before .before .pre .0, c .before .before .before .pre .1, c .before .before .before .pre .2, refl, length-replicate 42112 z, length-replicate 22669 z, length-replicate mostNodes z, length-replicate 14896 z, held-zero (sizesOf (c .before .before .before .args .start .plan)) 14896 0 (c .size .result - 0))
+    (c .before .before .before .pre .0, c .before .before .before .pre .1, c .before .before .before .pre .2, refl, length-replicate 42112 z, length-replicate 23181 z, length-replicate mostNodes z, length-replicate 14896 z, held-zero (sizesOf (c .before .before .before .args .start .plan)) 14896 0 (c .size .result - 0))
 
 part-input-end : tie.Need-part-input-end Inv-loop μ-loop
 part-input-end c = omega (arith, c .before .before .before .line-size .ensures, shape-of-accepted (c .before .before .before .before .args .start .plan) (c .before .before .before .before .pre .0) .sensors-le, c .loop .inv .4)
@@ -78,7 +78,7 @@ block-requires c κs =
     let p = shape-of-accepted (l .run .plan) (l .inv .0) in
     let same : l .run .plan .sensors ≡ a .start .plan .sensors = ap (λ (q : Plan). q .sensors) (l .inv .3) in
     let n : length (take (128 * size .result - 0) (l .input)) ≡ 128 * size .result = front-length (l .input) refl (omega (arith, size .ensures, h .sensors-le, l .inv .4)) in
-    let m : length (take 22669 (l .out)) ≡ 22669 = length-take-le 22669 (l .out) (omega (arith, l .inv .5)) in
+    let m : length (take 23181 (l .out)) ≡ 23181 = length-take-le 23181 (l .out) (omega (arith, l .inv .5)) in
     let b = bytes-fit (a .start .plan) (c .before .before .before .before .before .before .before .before .pre .0) (c .before .before .before .before .before .before .sizes-with .ensures) (c .before .before .before .before .before .size .ensures) (l .inv .7) in
     let f : length (take (c .before .before .before .before .before .size .result - 0) (l .faults)) ≡ faultsSize (sizesOf (l .run .plan)) = front-length (l .faults) refl (b .1) ∙ b .0 ∙ ap (λ (q : Plan). faultsSize (sizesOf q)) (sym (l .inv .3)) in
     (l .inv .0, l .inv .1, l .inv .2, omega (arith, n, size .ensures, same), l .inv .6, f, l .inv .8, omega (arith, m, p .actuators-le))
@@ -137,7 +137,7 @@ loop-again c =
       left-in-time (l .run) (b .last .1 .1 .0) _ (b .result .got) _ _ (b .ensures .2) (l .inv .2),
       plan ∙ l .inv .3,
       length-front (l .input) (b .last .1 .1 .0) (128 * c .before .before .before .before .before .before .before .before .before .before .before .before .before .before .line-size .result - 0) (b .ensures .0) ∙ l .inv .4,
-      length-front (l .out) (b .last .1 .1 .1 .1 .1 .0) 22669 (b .ensures .7) ∙ l .inv .5,
+      length-front (l .out) (b .last .1 .1 .1 .1 .1 .0) 23181 (b .ensures .7) ∙ l .inv .5,
       b .ensures .4,
       length-front (l .faults) (b .last .1 .1 .1 .1 .0) (k - 0) (b .ensures .5) ∙ l .inv .7,
       rw (back, plan) (b .ensures .6),

@@ -10,8 +10,8 @@ use Rattle.plan.proofs.AcceptedLaws.{shape-of-accepted}
 use Rattle.row_frame.proofs.FrameLaws.{sizes-small}
 use Rattle.lines.specs.Line.{printedSize}
 use Rattle.lines.specs.Listing.{singleAfter}
-use Rattle.lines.proofs.StepLaws.{front-length}
-use Rattle.lines.proofs.RowsLaws.{rows-next, planes-read, working-is, same-rows, line-is}
+use Rattle.lines.proofs.StepLaws.{front-length, front-fits}
+use Rattle.lines.proofs.RowsLaws.{rows-next, planes-read, agreement-is, working-is, same-rows, line-is}
 use Rattle.lines.proofs.step.finish_line.Statement.{statement}
 use Rattle.lines.proofs.step.finish_line.Tie as tie
 
@@ -36,7 +36,7 @@ equal-requires c κs =
 write-frame-requires : tie.Need-write-frame-requires
 write-frame-requires c κs =
     let q = c .before .before .before .before .before .before .before .before .before .before .before .before .before .before .before .before .before .before .before .before .before .before .pre in
-    (sizes-small _ (q .0) _ (q .1) .0 .actuators, q .6 ∙ ap (λ (t : Sizes). printedSize (t .actuators)) (sym (q .1)))
+    (sizes-small _ (q .0) _ (q .1) .0 .actuators, q .6 ∙ ap (λ (t : Sizes). printedSize (t .actuators)) (sym (q .1)), front-fits (replicate mostActuators 0) (c .before .before .before .before .before .before .before .before .before .before .frame .last .1 .1 .1 .1 .1 .1 .1 .1 .1 .1 .0) (c .before .before .before .before .before .before .before .before .before .before .frame .kept .1 .1 .1 .1 .1 .1 .1 .1 .1 .1 .0) (sizes-small _ (q .0) _ (q .1) .0 .actuators))
 
 returns : tie.Need-returns
 unfolding singleAfter
@@ -52,7 +52,8 @@ returns c =
       line-is (a .plan) (a .s) (q .1) sys (a .sensors .now) (a .mask) x _ (a .frame) (c .before .before .write-frame .ensures)
           (c .before .before .before .before .before .before .before .before .before .before .before .before .before .before .before .before .before .before .working .ensures ∙ working-is (a .plan) (a .s) (q .1) sys (a .sensors .now) (a .mask) x (a .good .now) (rows .good-is))
           (c .before .before .before .before .before .equal .ensures ∙ same-rows (a .plan) (a .s) (q .1) sys (a .sensors .now) (a .mask) x _ _ _ _ (h .nodes-high) g (c .before .before .before .before .before .before .before .before .before .before .before .before .before .frame .ensures .1))
-          (planes-read (a .plan) (a .s) (q .1) sys (a .sensors .now) (a .mask) x (a .faults .now) hold (replicate mostActuators 0) _ refl (h .actuators-le) (f .1)),
+          (planes-read (a .plan) (a .s) (q .1) sys (a .sensors .now) (a .mask) x (a .faults .now) hold (replicate mostActuators 0) _ refl (h .actuators-le) (f .1))
+          (agreement-is (a .plan) (a .s) (q .1) sys (a .sensors .now) (a .mask) x (a .faults .now) hold (f .2)),
     )
 
 pub finish-line-spec : {M : Type 1} → statement M

@@ -10,7 +10,7 @@ plane-values-requires c κs =
     (q .0, q .1, q .5, search needs, q .8, q .9)
 
 returns : tie.Need-returns
-returns c = (through-then (c .before .before .before .before .before .before .before .before .before .before .before .before .before .before .before .before .before .before .vote .ensures) (c .before .before .before .before .before .before .before .before .before .before .before .spoil .ensures), c .before .before .before .before .plane-values .ensures, c .counts .ensures, λ i. c .before .before .before .before .before .before .before .before .before .before .before .before .before .before .before .before .before .before .before .before .before .before .slice-known2 .given i .fits)
+returns c = (through-then (c .before .before .before .before .before .before .before .before .before .before .before .before .before .before .before .before .before .before .vote .ensures .0) (c .before .before .before .before .before .before .before .before .before .before .before .spoil .ensures), c .before .before .before .before .plane-values .ensures, c .counts .ensures, λ i. c .before .before .before .before .before .before .before .before .before .before .before .before .before .before .before .before .before .before .before .before .before .before .slice-known2 .given i .fits, c .before .before .before .before .before .before .before .before .before .before .before .before .before .before .before .before .before .before .vote .ensures .1)
 
 pub close-spec : {M : Type 1} → statement M
 close-spec =

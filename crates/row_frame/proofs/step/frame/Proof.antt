@@ -164,8 +164,8 @@ returns c =
     let a = c .before .before .before .before .before .before .before .before .before .before .before .before .before .before .before .before .before .before .before .before .before .args in
     let q = c .before .before .before .before .before .before .before .before .before .before .before .before .before .before .before .before .before .before .before .before .before .pre in
     let k = c .before .before .before .before .before .before .close in
-    framed (a .t1) (q .0) (a .s) (q .1) (a .first) (q .2) (a .sensors .now) (a .mask) (a .faults .now) (a .counters .now) (a .cells .now) (c .before .before .before .before .before .before .before .before .before .before .before .before .before .before .before .loop .counters) (c .before .before .before .before .before .before .before .before .before .before .before .before .before .before .before .loop .cells) _ _ (a .good .now) _ (a .place .now) _
-    (through-all _ _ _ (c .before .before .before .before .before .before .before .before .before .before .before .before .before .before .before .loop .inv .6) (omega arith)) (k .ensures .3) (k .ensures .0) (k .ensures .1) (k .ensures .2)
+    framed (a .t1) (q .0) (a .s) (q .1) (a .first) (q .2) (a .sensors .now) (a .mask) (a .faults .now) (a .counters .now) (a .cells .now) (c .before .before .before .before .before .before .before .before .before .before .before .before .before .before .before .loop .counters) (c .before .before .before .before .before .before .before .before .before .before .before .before .before .before .before .loop .cells) _ _ (a .good .now) _ (a .place .now) _ _
+    (through-all _ _ _ (c .before .before .before .before .before .before .before .before .before .before .before .before .before .before .before .loop .inv .6) (omega arith)) (k .ensures .3) (k .ensures .0) (k .ensures .1) (k .ensures .2) (k .ensures .4)
 
 pub frame-spec : {M : Type 1} → statement M
 frame-spec =

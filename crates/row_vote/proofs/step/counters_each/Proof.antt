@@ -1,13 +1,17 @@
 -- `row_vote::step::counters_each` meets its contract: of the first i nodes the good ones have counted.
-use mathlib.Core.Path.{sym, ap, _∙_}
+use mathlib.Core.Path.{_≡_, sym, ap, _∙_}
 use mathlib.Core.Bool.{not}
 use mathlib.Core.Logic.{⊎-elim}
-use Prim.Native.Nat.{suc, _-_, _≤_}
+use mathlib.Core.Option.{Option}
+use Prim.Native.Nat.{ℕ, suc, _-_, _≤_}
 use native.Mathlib.Numerals.{add-one}
 use native.Mathlib.Omega.{arith}
 use lib.ListN.{getD}
 use borrow.Author.Needs.{needs}
-use Rattle.ballot.specs.Majority.{orOwn, majority}
+use Rattle.array.specs.Index.{lesser, least}
+use Rattle.array.proofs.LeastLaws.{least-none, least-taken, least-left}
+use Rattle.ballot.specs.Majority.{majority, agreement, orOwn}
+use Rattle.ballot.proofs.AgreementLaws.{told-agreement}
 use Rattle.row_vote.specs.Code.{Put, isGood, heardCounter}
 use Rattle.row_vote.proofs.PutLaws.{suc-apart, put-none, put-still, put-taken, put-left, put-all}
 use Rattle.row_vote.proofs.HeardLaws.{counted-own}
@@ -15,30 +19,36 @@ use Rattle.row_vote.proofs.step.counters_each.Statement.{statement}
 use Rattle.row_vote.proofs.step.counters_each.Tie as tie
 
 abbrev Inv-loop : tie.InvT-loop
-Inv-loop s mask faults words counters₀ nodes frames i₀ counters i =
+Inv-loop s mask faults words counters₀ low nodes frames agreed₀ i₀ counters agreed i =
     (i ≤ nodes)
     × Put suc (isGood mask) (λ k. orOwn frames (getD counters₀ (suc k) 0) (majority (heardCounter s mask faults (λ j. getD words j 0) k) nodes)) i counters₀ counters
+    × (agreed ≡ lesser low (least (isGood mask) (λ k. agreement (heardCounter s mask faults (λ j. getD words j 0) k) nodes) i))
 
 abbrev μ-loop : tie.MeasureT-loop
-μ-loop s mask faults words counters₀ nodes frames i₀ counters i = nodes - i
+μ-loop s mask faults words counters₀ low nodes frames agreed₀ i₀ counters agreed i = nodes - i
 
 loop-holds : tie.Need-loop-holds Inv-loop μ-loop
-loop-holds c = (search needs, put-none suc suc-apart _ _ _)
+loop-holds c = (search needs, put-none suc suc-apart _ _ _, least-none _ _ _)
 
 loop-again : tie.Need-loop-again Inv-loop μ-loop
 loop-again c =
     let l = c .before .before .before .loop in
     let a = c .before .before .before .before .before .before .args in
     let p = c .before .before .before .before .before .before .pre in
-    let bin = heardCounter (a .s) (a .mask) (a .faults .now) (λ j. getD (a .words .now) j 0) (l .i) in
+    let bin : ℕ → ℕ → Option ℕ = heardCounter (a .s) (a .mask) (a .faults .now) (λ j. getD (a .words .now) j 0) in
+    let count : ℕ → ℕ = λ k. agreement (bin k) (a .s .nodes) in
     let still = ap (λ k. getD (l .counters) k 0) (add-one (l .i)) ∙ put-still suc suc-apart _ _ (a .counters .now) (l .i) (l .inv .1) in
     let good = ap not (sym (c .before .is-bad .ensures)) in
     ⊎-elim
     (λ w. (
       search needs,
-      rw (w .6) (put-taken suc suc-apart _ _ (a .counters .now) (l .i) (l .inv .1) (good ∙ w .0 .taken) (add-one (l .i)) (omega (arith, p .3, p .0 .nodes, c .before .before .loop-test .taken)) (counted-own bin (a .s .nodes) (w .1 .result) (w .1 .ensures) (w .4 .ensures) still _ (w .5 .ensures))),
+      rw (w .9) (put-taken suc suc-apart _ _ (a .counters .now) (l .i) (l .inv .1) (good ∙ w .0 .taken) (add-one (l .i)) (omega (arith, p .3, p .0 .nodes, c .before .before .loop-test .taken)) (counted-own (bin (l .i)) (a .s .nodes) (w .1 .result) (w .1 .ensures) (w .3 .ensures) still _ (w .5 .ensures))),
+      w .10
+          ∙ w .8 .ensures
+          ∙ least-taken (isGood (a .mask)) count (a .low) (l .i) (l .inv .2) (good ∙ w .0 .taken)
+          (told-agreement (bin (l .i)) (a .s .nodes) (w .1 .result) (w .1 .ensures) (w .3 .ensures) (w .7 .ensures)),
     ))
-    (λ w. (search needs, rw (w .1) (put-left suc suc-apart _ _ (a .counters .now) (l .i) (l .inv .1) (good ∙ w .0 .left))))
+    (λ w. (search needs, rw (w .1) (put-left suc suc-apart _ _ (a .counters .now) (l .i) (l .inv .1) (good ∙ w .0 .left)), w .2 ∙ least-left (isGood (a .mask)) count (a .low) (l .i) (l .inv .2) (good ∙ w .0 .left)))
     (c .if1 .came)
 
 same-length : tie.Need-same-length Inv-loop μ-loop
@@ -48,7 +58,11 @@ returns : tie.Need-returns Inv-loop μ-loop
 returns c =
     let a = c .before .before .before .before .args in
     let l = c .before .loop in
-    put-all suc suc-apart _ _ (a .counters .now) (l .i) (l .inv .1) (omega arith)
+    let e : l .i ≡ a .s .nodes = omega arith in (
+      put-all suc suc-apart _ _ (a .counters .now) (l .i) (l .inv .1) e,
+      l .inv .2
+          ∙ ap (λ (k : ℕ). lesser (a .low) (least (isGood (a .mask)) (λ i. agreement (heardCounter (a .s) (a .mask) (a .faults .now) (λ j. getD (a .words .now) j 0) i) (a .s .nodes)) k)) e,
+    )
 
 pub counters-each-spec : {M : Type 1} → statement M
 counters-each-spec =
@@ -59,14 +73,16 @@ counters-each-spec =
     loop-holds
     (λ c κs. search needs)
     (λ c κs. search needs)
+    (λ c κs. search needs)
+    (λ c. search needs)
+    (λ c. search needs)
+    (λ c. search needs)
+    (λ c κs. search needs)
     (λ c. search needs)
     (λ c. search needs)
     (λ c. search needs)
     (λ c κs. search needs)
     (λ c κs. search needs)
-    (λ c. search needs)
-    (λ c. search needs)
-    (λ c. search needs)
     (λ c. search needs)
     (λ c. search needs)
     loop-again

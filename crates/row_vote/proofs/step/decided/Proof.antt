@@ -1,6 +1,9 @@
 -- `row_vote::step::decided` meets its contract: with no bad node all words are good ones'.
 use mathlib.Core.Path.{_∙_}
+use lib.ListN.{getD}
 use borrow.Author.Needs.{needs}
+use Rattle.ballot.proofs.PackedLaws.{packed-majority}
+use Rattle.row_vote.specs.Code.{goodOnly}
 use Rattle.row_vote.proofs.HeardLaws.{good-alone}
 use Rattle.row_vote.proofs.step.decided.Statement.{statement}
 use Rattle.row_vote.proofs.step.decided.Tie as tie
@@ -11,7 +14,10 @@ returns c =
     c .majority .ensures ∙ good-alone (a .mask) (a .nodes) (a .words .now) (c .before .if1 .taken)
 
 returns-2 : tie.Need-returns-2
-returns-2 c = c .majority2 .ensures ∙ c .before .before .before .good-ones .ensures .1
+returns-2 c =
+    let a = c .before .before .before .before .before .args in
+    let g = c .before .before .before .good-ones in
+    c .majority2 .ensures ∙ packed-majority (goodOnly (a .mask) (λ j. getD (a .words .now) j 0)) (g .result .words) (g .result .count) (a .nodes) (g .ensures .0) (g .ensures .1)
 
 pub decided-spec : {M : Type 1} → statement M
 decided-spec = tie.close (tie.spec (λ c κs. search needs) returns (λ c κs. search needs) (λ c κs. search needs) returns-2)

@@ -7,7 +7,7 @@ use native.Mathlib.Omega.{arith}
 use lib.ListN.{length, getD, length-set}
 use borrow.Author.Needs.{needs}
 use Rattle.plan.specs.Limits.{mostNodes}
-use Rattle.ballot.proofs.PackedLaws.{Packed, packed-none, packed-held, packed-silent, packed-majority}
+use Rattle.ballot.proofs.PackedLaws.{Packed, packed-none, packed-held, packed-silent}
 use Rattle.row_vote.specs.Code.{goodOnly}
 use Rattle.row_vote.proofs.HeardLaws.{good-if, good-none, good-some}
 use Rattle.row_vote.proofs.step.good_ones.Statement.{statement}
@@ -53,7 +53,7 @@ returns c =
     let a = c .before .before .args in
     let l = c .before .loop in
     let e : l .j ≡ a .nodes = omega arith in
-    (omega (arith, l .inv .1), packed-majority (goodOnly (a .mask) (λ i. getD (a .words .now) i 0)) (l .good) (l .k) (a .nodes) (omega (arith, l .inv .1)) (rw e at (l .inv .3)))
+    (omega (arith, l .inv .1), rw e at (l .inv .3))
 
 pub good-ones-spec : {M : Type 1} → statement M
 good-ones-spec =

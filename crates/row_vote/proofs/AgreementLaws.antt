@@ -1,0 +1,238 @@
+-- Laws of the agreement on rows: what each way through the code counts is the least of what each good node counts for itself, and counter and columns together
+-- give the frame's least.
+use mathlib.Core.Path.{_≡_, refl, sym, ap, _∙_}
+use mathlib.Core.Bool.{Bool, true, false, not, cond}
+use mathlib.Core.List.{List}
+use mathlib.Core.Option.{Option, none, some, Option·getD}
+use Prim.Native.Nat.{ℕ, zero, suc, _+_, _≤_, _<_, min}
+use native.Mathlib.Omega.{arith}
+use native.Mathlib.Nat.{not-suc-le-zero}
+use native.Mathlib.Numerals.{add-one}
+use lib.Dec.{eqb}
+use lib.ListN.{getD}
+use borrow.Author.Tests.{eqb-true, eqb-false, not-true}
+use Rattle.array.specs.Index.{allBelow, lesser, least}
+use Rattle.array.proofs.IndexLaws.{allBelow-at, allBelow-not}
+use Rattle.array.specs.Bit.{bit}
+use Rattle.array.proofs.BitLaws.{bit-none}
+use Rattle.array.proofs.TestLaws.{split, and-left, and-right, and-both}
+use Rattle.array.proofs.LeastLaws.{lesser-first, least-below, least-of, least-missing, least-of-taken, least-same}
+use Rattle.plan.specs.declared.Sizes.{Sizes}
+use Rattle.plan.specs.Limits.{mostFrames}
+use Rattle.ballot.specs.Majority.{holds, holders, majority, agreement}
+use Rattle.ballot.proofs.MajorityLaws.{no-some, holds-true, holders-least, holders-same, holders-some, majority-some}
+use Rattle.ballot.proofs.AgreementLaws.{agreement-some, agreement-none, agreement-bound}
+use Rattle.memory.specs.Node.{cellFrom}
+use Rattle.system.specs.Fault.{faultMessageAt}
+use Rattle.row_vote.specs.Code.{frameBefore, votedAt, isGood, goodOnly, heardOf, sentWord, agreedFrame, heardCounter, counterAfter, counterAgreement, takes, wordAgreement, sentFrame, rowAgreement, columnsLeast}
+use Rattle.row_vote.proofs.VoteLaws.{agreed-some}
+use Rattle.row_vote.proofs.HeardLaws.{good-none, heard-agreement, good-heard, heard-decided, heard-alone}
+
+-- ---- what one receiver counts
+
+module _ (mask n : ℕ) (fault : ℕ → Option ℕ) (w : ℕ → ℕ) where
+  -- who sent a value as a good node is heard
+  heard-more : (x : ℕ) → holders (goodOnly mask w) n x ≤ holders (heardOf mask fault w) n x
+  unfolding holders
+  heard-more x =
+      holders-least (λ j. holds (goodOnly mask w j) x) (heardOf mask fault w) n x (λ j l t. good-heard mask n fault w j x (holds-true (goodOnly mask w j) x t))
+
+  -- with no bad node no one else is
+  heard-only : mask ≡ 0 → (x : ℕ) → holders (heardOf mask fault w) n x ≡ holders (goodOnly mask w) n x
+  heard-only z x = holders-same (heardOf mask fault w) (goodOnly mask w) n x (λ j l. rw (z, bit-none j))
+
+-- ---- the least over the good receivers of how many hold a value
+
+module _ (mask n low : ℕ) (fault : ℕ → ℕ → Option ℕ) (w : ℕ → ℕ) (x : ℕ) {held : ℕ} (h : held ≡ holders (goodOnly mask w) n x) where
+  abbrev count : ℕ → ℕ
+  count i = holders (heardOf mask (fault i) w) n x
+
+  -- no receiver hears of fewer than were good
+  pub low-reached : (i : ℕ) {agreed : ℕ} → i ≤ n → agreed ≡ lesser low (least (isGood mask) count i) → agreed ≤ held → agreed ≡ lesser low (least (isGood mask) count n)
+  low-reached i {agreed} l e r =
+      omega (
+        arith,
+        least-of (isGood mask) count (λ (k : ℕ). agreed ≤ k) n low (omega (arith, e, lesser-first low (least (isGood mask) count i))) (λ j k t. omega (arith, h, heard-more mask n (fault j) w x)),
+        e,
+        least-of (isGood mask) count (λ (k : ℕ). all ≤ k) i low (lesser-first low (least (isGood mask) count n))
+            (λ j k t. least-below (isGood mask) count n low all (omega arith) .1 j (omega arith) t),
+      )
+    where
+      all : ℕ
+      all = lesser low (least (isGood mask) count n)
+
+  -- with no bad node all hear the same
+  pub low-alone : {r : ℕ} → mask ≡ 0 → 0 < n → r ≡ min low held → r ≡ lesser low (least (isGood mask) count n)
+  low-alone {r} z pos e =
+      omega (
+        arith,
+        least-of (isGood mask) count (λ (k : ℕ). r ≤ k) n low (omega (arith, e)) (λ i k t. omega (arith, e, h, heard-more mask n (fault i) w x)),
+        lesser-first low (least (isGood mask) count n),
+        least-below (isGood mask) count n low (lesser low (least (isGood mask) count n)) (omega arith) .1 0 pos (rw (z, bit-none 0)),
+        heard-only mask n (fault 0) w z x,
+        e,
+        h,
+      )
+
+-- ---- the least over the good receivers of their agreements, by words u that were read of what was sent
+
+module _ (mask n low : ℕ) (fault : ℕ → ℕ → Option ℕ) (w u : ℕ → ℕ) (e : (j : ℕ) → j < n → w j ≡ u j) where
+  abbrev count-sent : ℕ → ℕ
+  count-sent i = agreement (heardOf mask (fault i) w) n
+
+  pub least-of-each :
+      (take : ℕ → Bool) {r : ℕ} → r ≡ lesser low (least take (λ i. agreement (heardOf mask (fault i) u) n) n) → r ≡ lesser low (least take count-sent n)
+  least-of-each take h =
+      h ∙ ap (lesser low) (least-same take take _ count-sent n (λ i l. refl) (λ i l t. sym (heard-agreement mask n w u e (fault i))))
+
+  module _ {o : Option ℕ} (d : o ≡ majority (goodOnly mask u) n) where
+    pub least-of-none : o ≡ none → mask ≡ 0 → 0 < n → 0 ≡ lesser low (least (isGood mask) count-sent n)
+    least-of-none q z pos =
+        omega (
+          arith,
+          least-below (isGood mask) count-sent n low (lesser low (least (isGood mask) count-sent n)) (omega arith) .1 0 pos (rw (z, bit-none 0)),
+          heard-agreement mask n w u e (fault 0),
+          agreement-none (heardOf mask (fault 0) u) n (heard-alone mask n (fault 0) u z ∙ sym d ∙ q),
+        )
+
+    pub least-of-decided :
+        (x : ℕ) → o ≡ some x → {r : ℕ} → r ≡ lesser low (least (isGood mask) (λ i. holders (heardOf mask (fault i) u) n x) n) →
+        r ≡ lesser low (least (isGood mask) count-sent n)
+    least-of-decided x q h =
+        h
+        ∙ ap (lesser low)
+        (least-same (isGood mask) (isGood mask) _ count-sent n (λ i l. refl)
+        (λ i l t. sym (agreement-some (heardOf mask (fault i) u) n x (heard-decided mask n (fault i) u x (sym d ∙ q))) ∙ sym (heard-agreement mask n w u e (fault i))))
+
+-- a value that is decided has a good sender
+decided-good : (mask n : ℕ) (w : ℕ → ℕ) (x : ℕ) → majority (goodOnly mask w) n ≡ some x → (j : ℕ) × (j < n) × (isGood mask j ≡ true)
+decided-good mask n w x e =
+    let h = holders-some (goodOnly mask w) n x (omega (arith, majority-some (goodOnly mask w) n x e)) in
+    (h .0, h .1, split (bit mask (h .0)) (λ t. absurd (no-some (sym (good-none mask w (h .0) (rw t)) ∙ h .2))) (λ t. rw t))
+
+-- where a frame is agreed, one is good
+pub agreed-good :
+    (s : Sizes) (mask : ℕ) (counters : List ℕ) {r : ℕ} →
+    r ≡ agreedFrame (s .frames) (majority (goodOnly mask (λ j. getD counters (suc j) 0)) (s .nodes)) → r < mostFrames →
+    (j : ℕ) × (j < s .nodes) × (isGood mask j ≡ true)
+agreed-good s mask counters e l =
+    let a = agreed-some (s .frames) _ e l in
+    decided-good mask (s .nodes) (λ j. getD counters (suc j) 0) (a .0) (a .1)
+
+-- ---- column by column
+
+module _ (votes : List Bool) (s : Sizes) (mask : ℕ) (faults : List ℕ) (sent frame : ℕ → ℕ) (cells : List ℕ) (low : ℕ) where
+  abbrev lows : ℕ → ℕ
+  lows = columnsLeast votes s mask faults sent frame cells low
+
+  abbrev word : ℕ → ℕ → ℕ
+  word = wordAgreement votes s mask faults sent cells
+
+  pub columns-none : low ≡ lows 0
+  unfolding columnsLeast
+  columns-none = refl
+
+  module _ (c : ℕ) {agreed : ℕ} (h : agreed ≡ lows c) where
+    pub columns-next : {r : ℕ} → r ≡ lesser agreed (least (takes votes mask frame c) (word c) (s .nodes)) → r ≡ lows (c + 1)
+    unfolding columnsLeast
+    columns-next e = rw (add-one c, ← h) e
+
+    -- no node votes on it
+    pub columns-skip : ((i : ℕ) → i < s .nodes → takes votes mask frame c i ≡ false) → agreed ≡ lows (c + 1)
+    unfolding columnsLeast lesser
+    columns-skip f = rw (add-one c, least-missing (takes votes mask frame c) (word c) (s .nodes) f) h
+
+  columns-below :
+      (k y : ℕ) → y ≤ lows k → (y ≤ low) × ((c i : ℕ) → c < k → i < s .nodes → takes votes mask frame c i ≡ true → y ≤ word c i)
+  unfolding columnsLeast
+  columns-below zero y h = (h, λ c i l. absurd (not-suc-le-zero l))
+  columns-below (suc k) y h =
+      let b = least-below (takes votes mask frame k) (word k) (s .nodes) (lows k) y h in
+      let r = columns-below k y (b .0) in
+      (r .0, λ c i l m t. split (eqb c k) (λ q. rw (eqb-true c k q) (b .1 i m (rw (eqb-true c k q) at t))) (λ q. r .1 c i (omega (arith, eqb-false c k q)) m t))
+
+  columns-above :
+      (k y : ℕ) → y ≤ low → ((c i : ℕ) → c < k → i < s .nodes → takes votes mask frame c i ≡ true → y ≤ word c i) → y ≤ lows k
+  unfolding columnsLeast
+  columns-above zero y h f = h
+  columns-above (suc k) y h f =
+      least-of (takes votes mask frame k) (word k) (λ (a : ℕ). y ≤ a) (s .nodes) (lows k)
+      (columns-above k y h (λ c i l. f c i (omega arith))) (λ i l t. f k i (omega arith) l t)
+
+-- ---- the frame's least, by the counters and the columns
+
+module _
+    (votes : List Bool) (s : Sizes) (mask : ℕ) (faults counters cells : List ℕ) (sent frame : ℕ → ℕ)
+    (sent-is : (j : ℕ) → j < s .nodes → sent j ≡ frameBefore (s .frames) (getD counters (suc j) 0))
+    (frame-is : (i : ℕ) → i < s .nodes → bit mask i ≡ false → frame i ≡ frameBefore (s .frames) (counterAfter s mask faults counters i))
+  where
+    abbrev row : ℕ → ℕ
+    row = rowAgreement votes s mask faults counters cells
+
+    abbrev all : Option ℕ
+    all = least (isGood mask) row (s .nodes)
+
+    -- the columns of each good node that it votes on, and its agreement on them
+    word-is : (c i : ℕ) → wordAgreement votes s mask faults sent cells c i ≡ wordAgreement votes s mask faults (sentFrame votes s mask faults counters cells) cells c i
+    unfolding wordAgreement
+    word-is c i =
+        heard-agreement mask (s .nodes) (sentWord votes sent cells c) (sentWord votes (sentFrame votes s mask faults counters cells) cells c) (λ j l. rw (sent-is j l))
+        (λ j. cellFrom faults c (faultMessageAt s j i))
+
+    row-below :
+        (y i : ℕ) → y ≤ row i → i < s .nodes → isGood mask i ≡ true →
+        (y ≤ counterAgreement s mask faults counters i) × ((c : ℕ) → c < s .cells → votedAt votes (frame i) c ≡ true → y ≤ wordAgreement votes s mask faults sent cells c i)
+    unfolding rowAgreement
+    row-below y i h l g =
+        let b = least-below _ _ (s .cells) (counterAgreement s mask faults counters i) y h in
+        (b .0, λ c m t. rw (word-is c i) (b .1 c m (ap (λ (f : ℕ). votedAt votes f c) (sym (frame-is i l (not-true (bit mask i) g))) ∙ t)))
+
+    row-above :
+        (y i : ℕ) → i < s .nodes → isGood mask i ≡ true → y ≤ counterAgreement s mask faults counters i →
+        ((c : ℕ) → c < s .cells → votedAt votes (frame i) c ≡ true → y ≤ wordAgreement votes s mask faults sent cells c i) → y ≤ row i
+    unfolding rowAgreement
+    row-above y i l g h f =
+        least-of _ _ (λ (a : ℕ). y ≤ a) (s .cells) (counterAgreement s mask faults counters i) h
+        (λ c m t. rw (← word-is c i) (f c m (ap (λ (k : ℕ). votedAt votes k c) (frame-is i l (not-true (bit mask i) g)) ∙ t)))
+
+    module _ {low : ℕ} (counted : low ≡ lesser (s .nodes) (least (isGood mask) (counterAgreement s mask faults counters) (s .nodes))) where
+      abbrev given : ℕ
+      given = columnsLeast votes s mask faults sent frame cells low (s .cells)
+
+      pub rows-agreed : (j : ℕ) → j < s .nodes → isGood mask j ≡ true → given ≡ Option·getD all 0
+      unfolding counterAgreement
+      rows-agreed j l g =
+          omega (
+            arith,
+            least-of-taken (isGood mask) row (s .nodes) j (s .nodes) l g
+                (omega (arith, row-below (row j) j (omega arith) l g .0, agreement-bound (heardCounter s mask faults (λ k. getD counters (suc k) 0) j) (s .nodes))),
+            least-of (isGood mask) row (λ (k : ℕ). given ≤ k) (s .nodes) (s .nodes) (up .0)
+                (λ i m t. row-above given i m t (up .1 i m t) (λ c n v. down .1 c i n m (and-both t v))),
+            columns-above votes s mask faults sent frame cells low (s .cells) low-all
+                (rw counted (least-of (isGood mask) counter (λ (k : ℕ). low-all ≤ k) (s .nodes) (s .nodes) (b .0) (λ i m t. row-below low-all i (b .1 i m t) m t .0)))
+                (λ c i m n t.
+                let good = and-left (isGood mask i) (votedAt votes (frame i) c) t in
+                row-below low-all i (b .1 i n good) n good .1 c m (and-right (isGood mask i) (votedAt votes (frame i) c) t)),
+          )
+        where
+          counter : ℕ → ℕ
+          counter = counterAgreement s mask faults counters
+
+          low-all : ℕ
+          low-all = lesser (s .nodes) all
+
+          b : (low-all ≤ s .nodes) × ((i : ℕ) → i < s .nodes → isGood mask i ≡ true → low-all ≤ row i)
+          b = least-below (isGood mask) row (s .nodes) (s .nodes) low-all (omega arith)
+
+          down : (given ≤ low) × ((c i : ℕ) → c < s .cells → i < s .nodes → takes votes mask frame c i ≡ true → given ≤ wordAgreement votes s mask faults sent cells c i)
+          down = columns-below votes s mask faults sent frame cells low (s .cells) given (omega arith)
+
+          up : (given ≤ s .nodes) × ((i : ℕ) → i < s .nodes → isGood mask i ≡ true → given ≤ counter i)
+          up = least-below (isGood mask) counter (s .nodes) (s .nodes) given (omega (arith, down .0, counted))
+
+      -- or 0 where all are bad
+      pub rows-least : {a r : ℕ} → a ≡ given → r ≡ cond (allBelow (λ j. bit mask j) (s .nodes)) 0 a → r ≡ Option·getD all 0
+      rows-least {a} e =
+          split (allBelow (λ j. bit mask j) (s .nodes))
+          (λ t. rw t (λ h. h ∙ rw (least-missing (isGood mask) row (s .nodes) (λ j l. ap not (allBelow-at (λ k. bit mask k) (s .nodes) j l t)))))
+          (λ t. rw t (λ h. let w = allBelow-not (λ k. bit mask k) (s .nodes) t in h ∙ e ∙ rows-agreed (w .0) (w .1) (ap not (w .2))))
