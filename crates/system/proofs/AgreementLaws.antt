@@ -1,6 +1,6 @@
 -- What request 2026-02 promises under demand 3's premise holds.
-use mathlib.Core.Path.{_≡_, subst, _∙_}
-use mathlib.Core.Bool.{true, false}
+use mathlib.Core.Path.{_≡_, ap, subst, _∙_}
+use mathlib.Core.Bool.{true, false, not}
 use mathlib.Core.List.{List, [], _∷_, _++_}
 use Prim.Native.Nat.{ℕ, _*_, _≤_, _<_}
 use native.Mathlib.Omega.{arith}
@@ -44,7 +44,7 @@ module _ (p : Plan) (sys : System) (sensors : List ℕ) (mask : ℕ) (faults : L
       ((i : ℕ) → i < p .nodes → bad mask i ≡ false → n ≤ agreementBy p sys sensors mask faults i) →
       n ≤ frameAgreement p sys sensors mask faults
   unfolding frameAgreement
-  frame-least n j l g h = least-of-some _ _ (λ (k : ℕ). n ≤ k) (p .nodes) j l (rw g) (λ i k t. h i k (not-true (bad mask i) t))
+  frame-least n j l g h = least-of-some _ _ (λ (k : ℕ). n ≤ k) (p .nodes) j l (ap not g) (λ i k t. h i k (not-true (bad mask i) t))
 
 pub agreement-holds : Agreement
 unfolding OnePlan Premise isWorking frameAnswer ifPassed

@@ -221,26 +221,32 @@ apart = call planK 2 (set silence 81 1) 0 (lit< tt) ∷ call planK 1 (set silenc
 pub alone : List Call
 alone = call planK 1 (set (set silence 37 1) 55 1) 0 (lit< tt) ∷ []
 
-agreed :
-    (agreements (powerOn planK) runK ≡ 3 ∷ 2 ∷ 2 ∷ 2 ∷ 3 ∷ 3 ∷ []) × (agreements (powerOn planK) apart ≡ 2 ∷ 2 ∷ []) × (agreements (powerOn planK) alone ≡ 3 ∷ [])
-unfolding agreements passed ifPassed next frameAnswer frameTests countsOk maskOk lengthsOk runK apart alone call filled silence powerOn poweredOn systemAfter memoryAfter
+-- plan K's: the last column of the listing
+pub runK-agreements : agreements (powerOn planK) runK ≡ 3 ∷ 2 ∷ 2 ∷ 2 ∷ 3 ∷ 3 ∷ []
+unfolding agreements passed ifPassed next frameAnswer frameTests countsOk maskOk lengthsOk runK call filled powerOn poweredOn systemAfter memoryAfter
     goodAfter countAfter frameAgreement agreementBy voteAgreement agreement lesser least computedBy heard mailboxOf faultMemory faultMessage backing computed messageOf
     binOf sentCell before voted votedCounter votedCell orOwn counterFrom cellFrom counterIn cellIn majority firstShared shared holders holds runTasks runTask
     opValue sumOf votedIn howMany fill joined from be bytes bit ofBits toBits isNan add planK plan noVotes period periodTo allKnown known knowFrame
     knowVoted knowTasks knowTask readsKnown reads allIn allBelow
-agreed = rw planK-accepted (refl, refl, refl)
-
--- the last column of the listing
-pub runK-agreements : agreements (powerOn planK) runK ≡ 3 ∷ 2 ∷ 2 ∷ 2 ∷ 3 ∷ 3 ∷ []
-runK-agreements = agreed .0
+runK-agreements = rw planK-accepted refl
 
 -- the good nodes count, not only those that work: node 1 agrees with 2, node 2 with 3
 pub apart-agreements : agreements (powerOn planK) apart ≡ 2 ∷ 2 ∷ []
-apart-agreements = agreed .1
+unfolding agreements passed ifPassed next frameAnswer frameTests countsOk maskOk lengthsOk apart call silence powerOn poweredOn systemAfter memoryAfter
+    goodAfter countAfter frameAgreement agreementBy voteAgreement agreement lesser least computedBy heard mailboxOf faultMemory faultMessage backing computed messageOf
+    binOf sentCell before voted votedCounter votedCell orOwn counterFrom cellFrom counterIn cellIn majority firstShared shared holders holds runTasks runTask
+    opValue sumOf votedIn howMany fill joined from be bytes bit ofBits toBits isNan add planK plan noVotes period periodTo allKnown known knowFrame
+    knowVoted knowTasks knowTask readsKnown reads allIn allBelow
+apart-agreements = rw planK-accepted refl
 
 -- and not the bad ones: node 0 would agree with 2
 pub alone-agreements : agreements (powerOn planK) alone ≡ 3 ∷ []
-alone-agreements = agreed .2
+unfolding agreements passed ifPassed next frameAnswer frameTests countsOk maskOk lengthsOk alone call silence powerOn poweredOn systemAfter memoryAfter
+    goodAfter countAfter frameAgreement agreementBy voteAgreement agreement lesser least computedBy heard mailboxOf faultMemory faultMessage backing computed messageOf
+    binOf sentCell before voted votedCounter votedCell orOwn counterFrom cellFrom counterIn cellIn majority firstShared shared holders holds runTasks runTask
+    opValue sumOf votedIn howMany fill joined from be bytes bit ofBits toBits isNan add planK plan noVotes period periodTo allKnown known knowFrame
+    knowVoted knowTasks knowTask readsKnown reads allIn allBelow
+alone-agreements = rw planK-accepted refl
 
 -- ---- outside the premise
 
