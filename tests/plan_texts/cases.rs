@@ -141,6 +141,44 @@ fn cases() -> Vec<(u32, u32, Vec<u8>, &'static str)> {
     say(2, 7, byte(text(&k()), 6, 56, b'\r'), "a carriage return at the end");
     say(2, 1, vec![0; 57], "zero bytes");
     say(2, 3, byte(text(&k()), 2, 16, 160), "byte 160 for a blank");
+    // 2: each byte of a wide column of twenty digits and of a narrow one, in turn; only a blank at the front leaves a number
+    let digits = column(text(&k()), 1, 16, "12345678901234567890");
+    for at in 0..20 {
+        for b in [b' ', b'/', b':', 0xb0] {
+            let number = if at == 0 && b == b' ' { 0 } else { 2 };
+            say(number, number, byte(digits.clone(), 1, 16 + at, b), "a byte among twenty digits");
+        }
+    }
+    for at in 0..4 {
+        for b in [b'/', b':', 0xa0, 0xb0] {
+            say(2, 2, byte(text(&k()), 1, 4 + at, b), "a byte in a narrow column");
+        }
+    }
+    // numbers of every length, behind blanks of every count; the largest are 2^64 - 1 and what is a little below it
+    for n in 1..21 {
+        let ones = &"11111111111111111111"[..n];
+        say(0, 0, column(text(&k()), 1, 16, &format!("{ones:>20}")), "so many digits");
+        if n < 20 {
+            say(0, 0, column(text(&k()), 1, 16, &format!("{:>20}", &"99999999999999999999"[..n])), "so many nines");
+            say(2, 2, column(text(&k()), 1, 16, &format!("{:>20}", format!("0{ones}"))), "a zero before them");
+        }
+    }
+    for (number, digits) in [
+        (0, "18446744073709551615"),
+        (0, "18446744073709551609"),
+        (0, "18446744073709551599"),
+        (0, "18446744073709549999"),
+        (0, "10000000000000000000"),
+        (2, "18446744073709551617"),
+        (2, "18446744073709551619"),
+        (2, "18446744073709551620"),
+        (2, "18446744073709551700"),
+        (2, "18446744073800000000"),
+        (2, "18446744080000000000"),
+        (2, "20000000000000000000"),
+    ] {
+        say(number, number, column(text(&k()), 1, 16, digits), "near 2^64");
+    }
     // 3: the first line
     say(3, 1, text(&with(k(), 0, [1, 0, 0, 0, 0, 0])), "a cell line first");
     say(3, 1, text(&with(k(), 0, [99, 3, 2, 2, 1, 1])), "an unknown kind first");

@@ -5,3 +5,7 @@ pub mod ColumnLaws
 pub mod RowLaws
 pub mod BufferLaws
 pub mod BytesLaws
+pub mod DigitWordLaws
+pub mod BlankedLaws
+pub mod PrintLaws
+pub mod BlankLaws

@@ -10,12 +10,24 @@ pub mod step;
 
 // The part of the line that holds the digits of its column from..to, from where the blanks end.
 // Of a column that reaches past the line's end only what lies in the line counts.
+// Four bytes are tested at a time; of four that are not all blanks, the lowest byte of their difference from blanks that is not zero tells where the blanks end.
 pub fn digits<'a>(line: &'a [u8], from: usize, to: usize) -> &'a [u8]
     ensures { λ r. ⌜ now r ≡ dropBlanks (slice from to (now (line .entry))) ⌝ }
 {
     let len = line.len();
     let end = if to < len { to } else { len };
+    if end <= from {
+        return &line[end..end];
+    }
     let mut i = from;
+    while 4 <= end - i {
+        let w = word::step::four(line, i);
+        if w != step::BLANKS {
+            i += step::blanks(w);
+            return &line[i..end];
+        }
+        i += 4;
+    }
     while i < end {
         if line[i] != 32 {
             return &line[i..end];
@@ -28,7 +40,11 @@ pub fn digits<'a>(line: &'a [u8], from: usize, to: usize) -> &'a [u8]
 pub fn read(line: &[u8], from: usize, to: usize) -> Number
     ensures { λ r. ⌜ shown r ≡ numberShown (slice from to (now (line .entry))) ⌝ }
 {
-    numeral::numeral(digits(line, from, to))
+    let d = digits(line, from, to);
+    if step::is_wide(from, to) {
+        return numeral::numeral(d);
+    }
+    numeral::step::few(d)
 }
 
 // The byte for what is left of a number: its last digit, or a blank where nothing is left.
@@ -42,13 +58,38 @@ fn glyph(q: u64) -> u8
 pub fn write(out: &mut [u8], v: u64)
     ensures { λ _. ⌜ now (out .exit) ≡ column (length (now (out .entry))) v ⌝ }
 {
-    let n = out.len();
-    if n == 0 {
+    let mut i = out.len();
+    let mut rest = v;
+    while 8 <= i {
+        i -= 8;
+        let low = rest % 100000000;
+        rest = rest / 100000000;
+        let d = step::digit_word(low / 10000, low % 10000);
+        if rest == 0 {
+            word::step::put_eight(out, i, step::blanked(d, 72057594037927936));
+            step::fill(out, i);
+            return;
+        }
+        word::step::put_eight(out, i, d + step::ZEROS);
+    }
+    if 4 <= i {
+        i -= 4;
+        let low = rest % 10000;
+        rest = rest / 10000;
+        let d = step::digit_word(low, 0);
+        if rest == 0 {
+            word::step::put_four(out, i, step::blanked(d, 16777216));
+            step::fill(out, i);
+            return;
+        }
+        word::step::put_four(out, i, d + step::ZEROS);
+    }
+    if i == 0 {
         return;
     }
-    let mut i = n - 1;
-    out[i] = 48 + (v % 10) as u8;
-    let mut rest = v / 10;
+    i -= 1;
+    out[i] = 48 + (rest % 10) as u8;
+    rest = rest / 10;
     while 0 < i {
         i -= 1;
         out[i] = glyph(rest);

@@ -1,35 +1,83 @@
-// Reading for callers that know their column to be wide and to lie in the line.
+// Reading for callers that know their column to be wide, and the words that columns are read and written by.
 ghost use mathlib.Core.Path.{_≡_};
-ghost use Prim.Native.Nat.{_+_, _≤_};
-ghost use lib.Dec.{eqb};
-ghost use lib.ListN.{length, getD};
+ghost use Prim.Native.Nat.{_+_, _-_, _<_, _≤_, _^_};
+ghost use mathlib.Core.Bool.{false};
+ghost use mathlib.Core.List.{_++_};
+ghost use lib.ListN.{length, drop, replicate};
 ghost use lib.Seq.{slice};
-ghost use Rattle.array.specs.Index.{allBelow};
+ghost use Rattle.word.specs.Word.{wordOf, lowZeros};
 ghost use Rattle.column.specs.Column.{numberShown};
+ghost use Rattle.column.specs.Word.{blanksIn, digitList};
 ghost use Rattle.numeral.specs.Answers.{shown};
 use numeral::Number;
 
-// Whether eight blanks stand from i on. Joined by `&`, the tests become one comparison of a word.
-fn eight_blanks(line: &[u8], i: usize) -> bool
-    requires { ⌜ i + 8 ≤ length (now line) ⌝ }
-    ensures { λ r. ⌜ r ≡ allBelow (λ k. eqb (getD (now (line .entry)) (i + k) 0) 32) 8 ⌝ }
+// Four blanks.
+pub const BLANKS: u32 = 0x20202020;
+
+// Eight zeros.
+pub const ZEROS: u64 = 0x3030303030303030;
+
+// ---- reading
+
+// How many of four bytes are blanks, up to the first other.
+pub fn blanks(w: u32) -> usize
+    ensures { λ r. ⌜ r ≡ blanksIn 4 w ⌝ }
 {
-    (line[i] == 32)
-        & (line[i + 1] == 32)
-        & (line[i + 2] == 32)
-        & (line[i + 3] == 32)
-        & (line[i + 4] == 32)
-        & (line[i + 5] == 32)
-        & (line[i + 6] == 32)
-        & (line[i + 7] == 32)
+    (u32::trailing_zeros(std::num::wrapping_sub_u32(w, BLANKS)) / 8) as usize
 }
 
-// What `read` gives; sixteen blanks at the start are passed over at once.
+// Whether more than seven bytes lie between two places.
+pub fn is_wide(from: usize, to: usize) -> bool
+    ensures { λ r. ⌜ (r ≡ false → to < from + 8) ⌝ }
+{
+    8 <= std::num::wrapping_sub_usize(to, from)
+}
+
+// What `read` gives, without its test; most wide columns of a plan show one digit.
 pub fn read_wide(line: &[u8], from: usize, to: usize) -> Number
-    requires { ⌜ (from + 16 ≤ to) × (to ≤ length (now line)) ⌝ }
     ensures { λ r. ⌜ shown r ≡ numberShown (slice from to (now (line .entry))) ⌝ }
 {
-    let blank = eight_blanks(line, from) & eight_blanks(line, from + 8);
-    let i = if blank { from + 16 } else { from };
-    super::read(line, i, to)
+    let d = super::digits(line, from, to);
+    if d.len() == 1 {
+        return numeral::step::one(d[0]);
+    }
+    numeral::numeral(d)
+}
+
+// ---- writing
+
+// The digits of two numbers of four digits each, as a word of eight bytes: the hundreds of both at once, then the tens of all four pairs.
+// For a below 10^4, a / 100 = a * 10486 / 2^20; for a below 100, a / 10 = a * 103 / 2^10.
+pub fn digit_word(a: u64, b: u64) -> u64
+    requires { ⌜ (a < 10 ^ 4) × (b < 10 ^ 4) ⌝ }
+    ensures { λ r. ⌜ r ≡ wordOf (digitList 4 a ++ digitList 4 b) ⌝ }
+{
+    let fours = a + b * 4294967296;
+    let hundreds = ((fours * 10486) >> 20) & 0x0000007F0000007F;
+    // Each field: its hundreds, then what is left: (fours - hundreds * 100) * 2^16 + hundreds.
+    let pairs = fours * 65536 - hundreds * 6553599;
+    let tens = ((pairs * 103) >> 10) & 0x000F000F000F000F;
+    // Likewise (pairs - tens * 10) * 2^8 + tens.
+    pairs * 256 - tens * 2559
+}
+
+// The bytes for a word of digits, with blanks for the zeros before the first other or the last digit, which is where `last` stands.
+pub fn blanked(digits: u64, last: u64) -> u64
+    requires { ⌜ (digits < 2 ^ 60) × (0 < last) × (last < 2 ^ 60) ⌝ }
+    ensures { λ r. ⌜ r ≡ digits + (wordOf (replicate 8 48) - wordOf (replicate (lowZeros 8 (digits + last)) 16)) ⌝ }
+{
+    let zeros = 8 * word::step::low_zeros(digits + last);
+    digits + (ZEROS - (0x1010101010101010 & ((1u64 << zeros) - 1)))
+}
+
+// Blanks up to a place.
+pub fn fill(out: &mut [u8], n: usize)
+    requires { ⌜ n ≤ length (now out) ⌝ }
+    ensures { λ _. ⌜ now (out .exit) ≡ replicate n 32 ++ drop n (now (out .entry)) ⌝ }
+{
+    let mut i = n;
+    while 0 < i {
+        i -= 1;
+        out[i] = 32;
+    }
 }

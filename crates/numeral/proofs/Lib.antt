@@ -1,1 +1,3 @@
 pub mod NumeralLaws
+pub mod EightLaws
+pub mod PartLaws

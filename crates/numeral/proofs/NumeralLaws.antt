@@ -1,19 +1,47 @@
 -- Reading digits byte by byte: what each test of the code says of the definitions.
 use mathlib.Core.Path.{_≡_, refl, ap, _∙_}
-use mathlib.Core.Bool.{true, false, and-false}
+use mathlib.Core.Bool.{Bool, true, false, _||_, and-false}
 use mathlib.Core.List.{List}
 use mathlib.Core.Option.{none, some}
-use Prim.Native.Nat.{ℕ, zero, suc, _+_, _-_, _*_, _^_, _<_, _≤_}
+use Prim.Native.Nat.{ℕ, zero, suc, _+_, _-_, _*_, _%_, _^_, _<_, _≤_}
 use native.Mathlib.Numerals.{add-one}
-use native.Mathlib.Nat.{le-trans, lt-of-lt-of-le, pow-suc, pow-le-pow-right}
+use native.Mathlib.Nat.{add-zero, add-suc, le-trans, lt-of-lt-of-le, pow-suc, pow-le-pow-right}
 use native.Mathlib.Omega.{arith}
 use lib.ListN.{length, getD}
-use lib.Dec.{leb, eqb, lit<}
-use borrow.Author.Tests.{eq-eqb, ne-eqb, le-leb, lt-leb, lt-ltb, le-ltb, eqb-true, eqb-false}
+use lib.Dec.{leb, ltb, eqb, lit<}
+use borrow.Author.Tests.{eq-eqb, ne-eqb, le-leb, lt-leb, lt-ltb, le-ltb, eqb-true, eqb-false, leb-true, leb-false, ltb-true, ltb-false}
 use Rattle.array.specs.Index.{allBelow}
-use Rattle.array.proofs.TestLaws.{split, and-false-right}
+use Rattle.array.proofs.TestLaws.{split, clash, and-false-right}
 use Rattle.array.proofs.IndexLaws.{allBelow-more, allBelow-fails}
 use Rattle.numeral.specs.Numeral.{isDigit, decimal, isNumeral, numeralOf}
+use Rattle.numeral.specs.Part.{digitOf, decimalFrom}
+
+second-or : (a b : Bool) → (a || b) ≡ true → a ≡ false → b ≡ true
+second-or true b e f = absurd (clash refl f)
+second-or false b e f = e
+
+none-or : (a b : Bool) → (a || b) ≡ false → (a ≡ false) × (b ≡ false)
+none-or true b e = absurd (clash refl e)
+none-or false b e = (refl, e)
+
+-- ---- a byte without the 48 of '0'
+
+module _ (b : ℕ) (l : b < 256) where
+  pub digit-wraps : {r : ℕ} → (r + 48) % 2 ^ 64 ≡ b → r < 2 ^ 64 → r ≡ digitOf b
+  unfolding digitOf
+  digit-wraps e f = omega (arith, l)
+
+  -- at most 9: a digit
+  pub digit-yes : digitOf b ≤ 9 → (48 ≤ b) × (b ≤ 57) × (digitOf b ≡ b - 48)
+  unfolding digitOf
+  digit-yes h = (omega (arith, l), omega (arith, l), omega (arith, l))
+
+  pub digit-no : 9 < digitOf b → isDigit b ≡ false
+  unfolding digitOf
+  digit-no h =
+      split (leb 48 b)
+      (λ t. and-false-right (leb 48 b) (lt-leb b 57 (omega (arith, l, leb-true 48 b t))))
+      (λ t. rw t)
 
 -- a digit more
 pub power-more : (v x i : ℕ) → v < 10 ^ i → x < 10 → v * 10 + x < 10 ^ (i + 1)
@@ -30,6 +58,12 @@ module _ (d : List ℕ) where
   pub decimal-more : (k : ℕ) → decimal d (k + 1) ≡ decimal d k * 10 + (getD d k 0 - 48)
   unfolding decimal
   decimal-more k = rw (add-one k)
+
+  -- digits more, taken together
+  pub decimal-from : (i k : ℕ) → decimal d (i + k) ≡ decimal d i * 10 ^ k + decimalFrom d i k
+  unfolding decimal decimalFrom
+  decimal-from i zero = rw (add-zero i) (omega arith)
+  decimal-from i (suc k) = rw (add-suc i k, pow-suc 10 k) (omega (arith, decimal-from i k))
 
   pub decimal-grows : (k n : ℕ) → k ≤ n → decimal d k ≤ decimal d n
   unfolding decimal
@@ -56,7 +90,7 @@ module _ (d : List ℕ) where
 
   -- ---- what is refused
 
-  pub numeral-malformed : isNumeral d ≡ false → none ≡ numeralOf d
+  numeral-malformed : isNumeral d ≡ false → none ≡ numeralOf d
   unfolding numeralOf
   numeral-malformed e = rw e
 
@@ -73,11 +107,8 @@ module _ (d : List ℕ) where
   unfolding isNumeral
   numeral-other k l e = numeral-malformed (rw (allBelow-fails (λ i. isDigit (getD d i 0)) (length d) k l e, and-false))
 
-  pub numeral-low : (k : ℕ) → k < length d → getD d k 0 < 48 → none ≡ numeralOf d
+  numeral-low : (k : ℕ) → k < length d → getD d k 0 < 48 → none ≡ numeralOf d
   numeral-low k l h = numeral-other k l (rw (lt-leb 48 (getD d k 0) h))
-
-  pub numeral-high : (k : ℕ) → k < length d → 57 < getD d k 0 → none ≡ numeralOf d
-  numeral-high k l h = numeral-other k l (and-false-right (leb 48 (getD d k 0)) (lt-leb (getD d k 0) 57 h))
 
   -- too large already at the first k digits
   pub numeral-large : (k : ℕ) → k ≤ length d → 2 ^ 64 ≤ decimal d k → none ≡ numeralOf d
@@ -85,8 +116,23 @@ module _ (d : List ℕ) where
   numeral-large k l h = rw (le-ltb (decimal d (length d)) (2 ^ 64) (le-trans h (decimal-grows k (length d) l)), and-false)
 
   -- more than twenty digits
-  pub numeral-long : 20 < length d → 48 < getD d 0 0 → none ≡ numeralOf d
+  numeral-long : 20 < length d → 48 < getD d 0 0 → none ≡ numeralOf d
   numeral-long l h = numeral-large 21 l (omega (arith, decimal-power 20 h))
+
+  -- eight bytes or more that start with a zero, or more than twenty
+  pub numeral-many : 8 ≤ length d → (eqb (getD d 0 0) 48 || ltb 20 (length d)) ≡ true → none ≡ numeralOf d
+  numeral-many l e =
+      split (eqb (getD d 0 0) 48)
+      (λ t. numeral-zeros (eqb-true (getD d 0 0) 48 t) (λ n. omega arith))
+      (λ t. let h : 20 < length d = ltb-true 20 (length d) (second-or (eqb (getD d 0 0) 48) (ltb 20 (length d)) e t) in
+      split (leb 48 (getD d 0 0))
+      (λ q. numeral-long h (omega (arith, leb-true 48 (getD d 0 0) q, eqb-false (getD d 0 0) 48 t)))
+      (λ q. numeral-low 0 (omega arith) (leb-false 48 (getD d 0 0) q)))
+
+  pub numeral-first : (eqb (getD d 0 0) 48 || ltb 20 (length d)) ≡ false → (getD d 0 0 ≡ 48 → ⊥) × (length d ≤ 20)
+  numeral-first e =
+      let n = none-or (eqb (getD d 0 0) 48) (ltb 20 (length d)) e in
+      (eqb-false (getD d 0 0) 48 (n .0), ltb-false 20 (length d) (n .1))
 
   -- ---- what is read
 

@@ -3,6 +3,8 @@ ghost use mathlib.Core.Path.{_≡_};
 ghost use Rattle.numeral.specs.Numeral.{numeralOf};
 ghost use Rattle.numeral.specs.Answers.{shown};
 
+pub mod step;
+
 // What a column shows.
 pub enum Number {
     Value(u64),
@@ -14,58 +16,45 @@ pub fn numeral(d: &[u8]) -> Number
     ensures { λ r. ⌜ shown r ≡ numeralOf (now (d .entry)) ⌝ }
 {
     let n = d.len();
-    if n == 0 {
-        return Number::Malformed;
-    }
-    let a = d[0] as u64;
-    if a == 48 {
-        if n == 1 {
-            return Number::Value(0);
-        }
-        return Number::Malformed;
-    }
-    if a < 48 {
-        return Number::Malformed;
-    }
-    if 57 < a {
-        return Number::Malformed;
+    if n < 8 {
+        return step::few(d);
     }
     // More than twenty digits are above 2^64 - 1. Nineteen are below 2^64: only at a twentieth is the number tested.
-    if 20 < n {
+    if (d[0] == 48) | (20 < n) {
         return Number::Malformed;
     }
-    let few = if n < 20 { n } else { 19 };
-    let mut v = a - 48;
-    let mut i = 1;
-    while i < few {
-        let b = d[i] as u64;
-        if b < 48 {
+    let most = if n < 20 { n } else { 19 };
+    let mut v: u64 = 0;
+    let mut i: usize = 0;
+    while 8 <= most - i {
+        let Number::Value(e) = step::eight(d, i) else {
+            return Number::Malformed;
+        };
+        v = v * 100000000 + e;
+        i += 8;
+    }
+    while i < most {
+        let x = step::digit(d[i]);
+        if 9 < x {
             return Number::Malformed;
         }
-        if 57 < b {
-            return Number::Malformed;
-        }
-        v = v * 10 + (b - 48);
+        v = v * 10 + x;
         i += 1;
     }
     if n < 20 {
         return Number::Value(v);
     }
-    let c = d[19] as u64;
-    if c < 48 {
-        return Number::Malformed;
-    }
-    if 57 < c {
+    let x = step::digit(d[19]);
+    if 9 < x {
         return Number::Malformed;
     }
     if 1844674407370955161 <= v {
         if 1844674407370955161 < v {
             return Number::Malformed;
         }
-        if 53 < c {
+        if 5 < x {
             return Number::Malformed;
         }
     }
-    v = v * 10 + (c - 48);
-    Number::Value(v)
+    Number::Value(v * 10 + x)
 }

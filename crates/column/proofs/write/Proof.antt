@@ -1,52 +1,221 @@
--- `column::write` meets its contract: the column is what is yet to be written, then what stands in `out` from `i` on.
+-- `column::write` meets its contract: what is yet to be written, then what stands in `out` from `i` on, is the column.
 use mathlib.Core.Path.{_≡_, sym, ap, _∙_}
-use mathlib.Core.List.{_++_}
-use Prim.Native.Nat.{ℕ, suc, _<_, _-_, _/_}
+use mathlib.Core.List.{[], _++_}
+use mathlib.Core.Logic.{⊎-elim}
+use Prim.Native.Nat.{ℕ, suc, _+_, _<_, _≤_, _-_, _/_, _%_}
 use native.Mathlib.Omega.{arith}
 use lib.ListN.{length, set, drop, length-set}
 use borrow.Author.Needs.{needs}
 use Rattle.column.specs.Column.{column, front}
-use Rattle.column.proofs.WritingLaws.{column-empty, column-last, front-next}
+use Rattle.column.specs.Word.{digitList}
+use Rattle.column.proofs.PrintLaws.{Written, written-digits, written-short, digits-eight, digits-four, digits-room, digits-length}
+use Rattle.column.proofs.WritingLaws.{column-start, column-end, column-next, front-next}
 use Rattle.column.proofs.write.Statement.{statement}
 use Rattle.column.proofs.write.Tie as tie
+use Rattle.column.proofs.write.Reads as reads
+use Rattle.column.proofs.write.Lts as lts
+use Rattle.column.proofs.glyph.Reads as glyph-reads
+use Rattle.column.proofs.step.blanked.Reads as blanked-reads
+use Rattle.column.proofs.step.digit_word.Reads as digit-word-reads
+use Rattle.column.proofs.step.fill.Reads as fill-reads
+use Rattle.word.proofs.step.put_eight.Reads as put-eight-reads
+use Rattle.word.proofs.step.put_four.Reads as put-four-reads
 
 abbrev Inv-loop : tie.InvT-loop
-Inv-loop out₀ v n i₀ rest₀ out i rest = (i < length out) × (length out ≡ n) × (column n v ≡ front i rest ++ drop i out)
+Inv-loop out₀ v i₀ rest₀ out i rest = Written out₀ v out i rest
 
 abbrev μ-loop : tie.MeasureT-loop
-μ-loop out₀ v n i₀ rest₀ out i rest = i
+μ-loop out₀ v i₀ rest₀ out i rest = i
 
-returns : tie.Need-returns Inv-loop μ-loop
-returns c = column-empty (c .before .before .args .out .now) (c .before .before .args .v) (c .if1 .taken)
+abbrev Inv-loop2 : tie.InvT-loop2
+Inv-loop2 out₀ v i₀ rest₀ out i rest = (i < length out) × (length out ≡ length out₀) × (column (length out₀) v ≡ front i rest ++ drop i out)
 
-loop-holds : tie.Need-loop-holds Inv-loop μ-loop
-loop-holds c =
-    let a = c .before .before .args in
-    let out = a .out .now in
-    let e : length out ≡ suc (length out - 1) = omega (arith, c .if1 .left) in
-    (simp length-set (omega (arith, c .if1 .left)), simp length-set, column-last out (length out - 1) (a .v) e)
+abbrev μ-loop2 : tie.MeasureT-loop2
+μ-loop2 out₀ v i₀ rest₀ out i rest = i
 
-loop-again : tie.Need-loop-again Inv-loop μ-loop
+loop-holds : tie.Need-loop-holds Inv-loop μ-loop Inv-loop2 μ-loop2
+loop-holds c = (search needs, search needs, column-start (c .before .args .out .now) (c .before .args .v))
+
+blanked-requires : tie.Need-blanked-requires Inv-loop μ-loop Inv-loop2 μ-loop2
+blanked-requires c κs =
+    let d = c .before .before in
+    let m = d .before .before .loop .rest % 100000000 in (omega (arith, d .digit-word .ensures, digits-room (m / 10000) (m % 10000)), search needs, search needs)
+
+returns : tie.Need-returns Inv-loop μ-loop Inv-loop2 μ-loop2
+returns c =
+    let m = c .before .before .before .before .before .before in
+    let d = m .before .before .before .before in
+    let l = d .before .before .loop in
+    let a = d .before .before .before .before .args in
+    let p : 8 ≤ l .i = omega (arith, d .before .loop-test) in
+    let short : l .rest < 100000000 = omega (arith, m .before .before .before .if1 .taken) in
+    written-short (a .out .now) (l .out) (m .put-eight .last .0) [] (a .v) (l .i) (l .rest) (d .digit-word .result) (l .inv)
+    7
+    (m .before .blanked .result)
+    (c .before .before .fill .last .0)
+    p
+    (search needs)
+    (d .digit-word .ensures ∙ digits-eight (l .rest))
+    short
+    (m .before .blanked .ensures)
+    (m .put-eight .ensures)
+    (c .before .before .fill .ensures)
+
+add-put-eight : tie.Need-add-put-eight Inv-loop μ-loop Inv-loop2 μ-loop2
+add-put-eight c =
+    let d = c .before .before in
+    let m = d .before .before .loop .rest % 100000000 in omega (arith, d .digit-word .ensures, digits-room (m / 10000) (m % 10000))
+
+loop-again : tie.Need-loop-again Inv-loop μ-loop Inv-loop2 μ-loop2
 loop-again c =
-    let l = c .before .before in
-    let i = l .loop .i in
-    let out = l .loop .out in
+    let m = c .before .before in
+    let d = m .before .before .before in
+    let l = d .before .before .loop in
+    let a = d .before .before .before .before .args in
+    let p : 8 ≤ l .i = omega (arith, d .before .loop-test) in
+    let wider : 0 < l .rest / 100000000 = omega (arith, m .before .before .if1 .left) in
+    written-digits (a .out .now) (l .out) (m .put-eight2 .last .0) [] (a .v) (l .i) (l .rest) (d .digit-word .result) (l .inv)
+    8
+    p
+    (search needs)
+    (d .digit-word .ensures ∙ digits-eight (l .rest))
+    wider
+    (m .put-eight2 .ensures)
+
+blanked-requires-2 : tie.Need-blanked-requires-2 Inv-loop μ-loop Inv-loop2 μ-loop2
+blanked-requires-2 c κs =
+    let d = c .before .before in (omega (arith, d .digit-word2 .ensures, digits-room (d .before .before .before .loop .rest % 10000) 0), search needs, search needs)
+
+returns-2 : tie.Need-returns-2 Inv-loop μ-loop Inv-loop2 μ-loop2
+returns-2 c =
+    let m = c .before .before .before .before .before .before in
+    let d = m .before .before .before .before in
+    let l = d .before .before .before .loop in
+    let a = d .before .before .before .before .before .args in
+    let p : 4 ≤ l .i = omega (arith, d .before .if2 .taken) in
+    let short : l .rest < 10000 = omega (arith, m .before .before .before .if3 .taken) in
+    written-short (a .out .now) (l .out) (m .put-four .last .0) (digitList 4 0) (a .v) (l .i) (l .rest) (d .digit-word2 .result) (l .inv)
+    3
+    (m .before .blanked2 .result)
+    (c .before .before .fill2 .last .0)
+    p
+    (ap (λ (n : ℕ). 4 + n) (digits-length 4 0))
+    (d .digit-word2 .ensures ∙ digits-four (l .rest))
+    short
+    (m .before .blanked2 .ensures)
+    (m .put-four .ensures)
+    (c .before .before .fill2 .ensures)
+
+add-put-four : tie.Need-add-put-four Inv-loop μ-loop Inv-loop2 μ-loop2
+add-put-four c =
+    let d = c .before .before in omega (arith, d .digit-word2 .ensures, digits-room (d .before .before .before .loop .rest % 10000) 0)
+
+-- where the code for four digits is done or was passed by
+abbrev Joined : Type 0
+Joined =
+    lts.Joined2 (
+      digit-word-reads.Asked,
+      digit-word-reads.Learnt,
+      blanked-reads.Asked,
+      blanked-reads.Learnt,
+      put-eight-reads.Asked,
+      put-eight-reads.Learnt,
+      fill-reads.Asked,
+      fill-reads.Learnt,
+      put-four-reads.Asked,
+      put-four-reads.Learnt,
+      glyph-reads.Asked,
+      glyph-reads.Learnt,
+    )
+    reads.Pre
+    reads.Post
+    Inv-loop
+    μ-loop
+    Inv-loop2
+    μ-loop2
+
+joined :
+    (c : Joined) →
+    Written (c .before .before .before .before .args .out .now) (c .before .before .before .before .args .v) (c .if2 .out) (c .if2 .i) (c .if2 .rest)
+joined c =
+    let a = c .before .before .before .before .args in
+    let l = c .before .before .loop in
+    ⊎-elim
+    (λ w.
+    let p : 4 ≤ l .i = omega (arith, w .0 .taken) in
+    let wider : 0 < l .rest / 10000 = omega (arith, w .2 .left) in
+    rw (w .7, w .8, w .9)
+    (written-digits (a .out .now) (l .out) (w .4 .last .0) (digitList 4 0) (a .v) (l .i) (l .rest) (w .1 .result) (l .inv)
+    4
+    p
+    (ap (λ (n : ℕ). 4 + n) (digits-length 4 0))
+    (w .1 .ensures ∙ digits-four (l .rest))
+    wider
+    (w .4 .ensures)))
+    (λ w. rw (w .1, w .2, w .3) (l .inv))
+    (c .if2 .came)
+
+same-length-3 : tie.Need-same-length-3 Inv-loop μ-loop Inv-loop2 μ-loop2
+same-length-3 c = joined (c .before) .1
+
+returns-3 : tie.Need-returns-3 Inv-loop μ-loop Inv-loop2 μ-loop2
+returns-3 c =
+    let j = c .before .if2 in
+    let a = c .before .before .before .before .before .args in
+    column-end (column (length (a .out .now)) (a .v)) (j .out) (j .i) (j .rest) (joined (c .before) .2) (c .if4 .taken)
+
+slice-write-out : tie.Need-slice-write-out Inv-loop μ-loop Inv-loop2 μ-loop2
+slice-write-out c = let z = c .before .before .if4 .left in omega (arith, joined (c .before .before .before) .0)
+
+loop2-holds : tie.Need-loop2-holds Inv-loop μ-loop Inv-loop2 μ-loop2
+loop2-holds c =
+    let a = c .before .before .before .before .before .before .before .args in
+    let j = c .before .before .before .if2 in
+    let s = joined (c .before .before .before) in
+    let out = j .out in
+    let i = j .i in
+    let z = c .before .before .if4 .left in
     let e : i ≡ suc (i - 1) = omega arith in
-    let in-out : i - 1 < length out = omega arith in (
+    let in-out : i - 1 < length out = omega (arith, s .0) in (
       simp length-set in-out,
-      simp length-set (l .loop .inv .1),
-      l .loop .inv .2
-          ∙ ap (λ (k : ℕ). front k (l .loop .rest) ++ drop k out) e
-          ∙ front-next out (i - 1) (l .loop .rest) in-out
-          ∙ ap (λ (b : ℕ). front (i - 1) (l .loop .rest / 10) ++ drop (i - 1) (set out (i - 1) b)) (sym (c .glyph .ensures)),
+      search needs,
+      ap (λ (n : ℕ). column n (a .v)) (length-set out (i - 1) (48 + j .rest % 10) ∙ s .1)
+          ∙ column-next (column (length (a .out .now)) (a .v)) out (i - 1) (j .rest) in-out
+          (s .2 ∙ ap (λ (k : ℕ). column k (j .rest) ++ drop k out) e),
     )
 
-returns-2 : tie.Need-returns-2 Inv-loop μ-loop
+loop2-again : tie.Need-loop2-again Inv-loop μ-loop Inv-loop2 μ-loop2
+loop2-again c =
+    let l = c .before .before .loop2 in
+    let i = l .i in
+    let out = l .out in
+    let e : i ≡ suc (i - 1) = omega (arith, c .before .loop2-test) in
+    let in-out : i - 1 < length out = omega (arith, l .inv .0) in (
+      simp length-set in-out,
+      simp length-set (simp length-set at (l .inv .1)),
+      l .inv .2
+          ∙ ap (λ (k : ℕ). front k (l .rest) ++ drop k out) e
+          ∙ front-next out (i - 1) (l .rest) in-out
+          ∙ ap (λ (b : ℕ). front (i - 1) (l .rest / 10) ++ drop (i - 1) (set out (i - 1) b)) (sym (c .glyph .ensures)),
+    )
+
+same-length-4 : tie.Need-same-length-4 Inv-loop μ-loop Inv-loop2 μ-loop2
+same-length-4 c =
+    let k = c .before .before .before .before .before in
+    let j = k .if2 in
+    c .before .loop2 .inv .1 ∙ length-set (j .out) (j .i - 1) (48 + j .rest % 10) ∙ joined k .1
+
+returns-4 : tie.Need-returns-4 Inv-loop μ-loop Inv-loop2 μ-loop2
 unfolding front
-returns-2 c =
-    let l = c .before in
-    let z : l .loop .i ≡ 0 = omega arith in
-    sym (l .loop .inv .2 ∙ ap (λ (k : ℕ). front k (l .loop .rest) ++ drop k (l .loop .out)) z)
+returns-4 c =
+    let k = c .before .before .before .before .before in
+    let a = k .before .before .before .before .args in
+    let j = k .if2 in
+    let l = c .before .loop2 in
+    let n : length (set (j .out) (j .i - 1) (48 + j .rest % 10)) ≡ length (a .out .now) =
+    length-set (j .out) (j .i - 1) (48 + j .rest % 10) ∙ joined k .1 in
+    let z : l .i ≡ 0 = omega (arith, c .loop2-test) in
+    sym (ap (λ (k : ℕ). column k (a .v)) (sym n) ∙ l .inv .2 ∙ ap (λ (k : ℕ). front k (l .rest) ++ drop k (l .out)) z)
 
 pub write-spec : {M : Type 1} → statement M
 write-spec =
@@ -54,16 +223,38 @@ write-spec =
     (tie.spec
     Inv-loop
     μ-loop
-    returns
-    (λ c. search needs)
-    (λ c. search needs)
-    (λ c. search needs)
-    (λ c. search needs)
+    Inv-loop2
+    μ-loop2
     loop-holds
+    (λ c κs. search needs)
+    blanked-requires
+    (λ c κs. search needs)
+    (λ c κs. search needs)
+    (λ c. search needs)
+    returns
+    add-put-eight
+    (λ c κs. search needs)
+    (λ c. search needs)
+    loop-again
+    (λ c κs. search needs)
+    blanked-requires-2
+    (λ c κs. search needs)
+    (λ c κs. search needs)
+    (λ c. search needs)
+    returns-2
+    add-put-four
+    (λ c κs. search needs)
+    same-length-3
+    returns-3
+    (λ c. search needs)
+    (λ c. search needs)
+    (λ c. search needs)
+    slice-write-out
+    loop2-holds
     (λ c. search needs)
     (λ c κs. search needs)
     (λ c. search needs)
     (λ c. search needs)
-    loop-again
-    (λ c. search needs)
-    returns-2)
+    loop2-again
+    same-length-4
+    returns-4)

@@ -21,10 +21,20 @@ returns-5 : tie.Need-returns-5
 returns-5 c = bad-4 _ _ (c .enum-told4 .given .1) (c .before .before .read4 .ensures)
 
 returns-6 : tie.Need-returns-6
-returns-6 c = bad-5 _ _ (c .enum-told5 .given .1) (c .before .before .read-wide .ensures)
+returns-6 c =
+    let x₄ = c .before .before .before in
+    let x₃ = x₄ .before .before .before .before in
+    let x₂ = x₃ .before .before .before .before in
+    let x₁ = x₂ .before .before .before .before in
+    bad-5 _ _ (c .enum-told5 .given .1) (x₁ .before .before .before .before .read-wide .ensures)
 
 returns-7 : tie.Need-returns-7
-returns-7 c = bad-6 _ _ (c .enum-told6 .given .1) (c .before .before .read-wide2 .ensures)
+returns-7 c =
+    let x₄ = c .before .before .before .before .before .before in
+    let x₃ = x₄ .before .before .before .before in
+    let x₂ = x₃ .before .before .before .before in
+    let x₁ = x₂ .before .before .before .before in
+    bad-6 _ _ (c .enum-told6 .given .1) (x₁ .before .before .before .read-wide2 .ensures)
 
 returns-8 : tie.Need-returns-8
 returns-8 c = bad-end _ (search needs) (c .if2 .taken)
@@ -32,24 +42,27 @@ returns-8 c = bad-end _ (search needs) (c .if2 .taken)
 returns-9 : tie.Need-returns-9
 returns-9 c =
     let x₆ = c .before .before .before in
-    let x₅ = x₆ .before .before .before .before in
-    let x₄ = x₅ .before .before .before .before in
+    let x₅ = x₆ .before .before .before in
+    let x₄ = x₅ .before .before .before in
     let x₃ = x₄ .before .before .before .before in
     let x₂ = x₃ .before .before .before .before in
     let x₁ = x₂ .before .before .before .before in
+    let w = x₁ .before .before .before in
     whole-line _ (search needs) (c .if2 .left)
     (value-read (x₁ .before .before .read .ensures) (x₁ .kind .given .1))
     (value-read (x₂ .before .before .read2 .ensures) (x₂ .second .given .1))
     (value-read (x₃ .before .before .read3 .ensures) (x₃ .third .given .1))
     (value-read (x₄ .before .before .read4 .ensures) (x₄ .fourth .given .1))
-    (value-read (x₅ .before .before .read-wide .ensures) (x₅ .fifth .given .1))
-    (value-read (x₆ .before .before .read-wide2 .ensures) (x₆ .sixth .given .1))
+    (value-read (w .before .read-wide .ensures) (x₅ .wide .given .1))
+    (value-read (w .read-wide2 .ensures) (x₆ .last .given .1))
 
 pub read-line-spec : {M : Type 1} → statement M
 read-line-spec =
     tie.close
     (tie.spec
     returns
+    (λ c κs. search needs)
+    (λ c κs. search needs)
     (λ c κs. search needs)
     (λ c. search needs)
     (λ c. search needs)
@@ -66,11 +79,9 @@ read-line-spec =
     (λ c. search needs)
     (λ c. search needs)
     returns-5
-    (λ c κs. search needs)
     (λ c. search needs)
     (λ c. search needs)
     returns-6
-    (λ c κs. search needs)
     (λ c. search needs)
     (λ c. search needs)
     returns-7

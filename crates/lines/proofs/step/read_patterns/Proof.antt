@@ -1,10 +1,13 @@
 -- `lines::step::read_patterns` meets its contract. The loop's invariant: the first `k` patterns in the array and the rest of the line are the line's.
-use mathlib.Core.Path.{_≡_}
-use Prim.Native.Nat.{_-_, _≤_, _<_}
+use mathlib.Core.Path.{_≡_, ap, _∙_}
+use Prim.Native.Nat.{_+_, _-_, _*_, _≤_, _<_}
+use native.Mathlib.Omega.{arith}
 use lib.ListN.{length}
 use Rattle.plan.specs.Limits.{mostSensors}
 use borrow.Author.Needs.{needs}
 use Rattle.lines.proofs.ReadingLaws.{Front, front-first, front-next, front-bad, front-all, malformed-read}
+use Rattle.column.specs.Column.{numberShown}
+use Rattle.column.proofs.ReadingLaws.{slice-lent}
 use Rattle.column.proofs.RowLaws.{value-read}
 use Rattle.lines.proofs.step.read_patterns.Statement.{statement}
 use Rattle.lines.proofs.step.read_patterns.Tie as tie
@@ -20,18 +23,24 @@ loop-holds c = (search needs, search needs, front-first (c .before .before .args
 
 returns : tie.Need-returns Inv-loop μ-loop
 returns c =
-    let a = c .before .before .before .before .before .before .before .args in
-    let l = c .before .before .before .before .loop in
-    front-bad (a .line .now) (a .count) (l .k) (search needs) (l .patterns) (l .inv .2) (malformed-read (c .before .before .read-wide .ensures) (c .enum-told .given .1))
+    let a = c .before .before .before .before .before .before .before .before .args in
+    let s = a .line .now in
+    let l = c .before .before .before .before .before .loop in
+    let at = 8 + 20 * l .k in
+    let e = ap numberShown (slice-lent s at (at + 20) 20 (omega arith) (search needs) (omega arith)) in
+    front-bad s (a .count) (l .k) (search needs) (l .patterns) (l .inv .2) (malformed-read (c .before .before .read-wide .ensures ∙ e) (c .enum-told .given .1))
 
 loop-again : tie.Need-loop-again Inv-loop μ-loop
 loop-again c =
-    let a = c .before .before .before .before .before .before .before .before .args in
-    let l = c .before .before .before .before .before .loop in
+    let a = c .before .before .before .before .before .before .before .before .before .args in
+    let s = a .line .now in
+    let l = c .before .before .before .before .before .before .loop in
+    let at = 8 + 20 * l .k in
+    let e = ap numberShown (slice-lent s at (at + 20) 20 (omega arith) (search needs) (omega arith)) in
     let b : l .k < length (l .patterns) = search needs in (
       search needs,
       search needs,
-      front-next (a .line .now) (a .count) (l .k) (search needs) (l .patterns) (l .inv .2) (c .before .v .given .0 .0) b (value-read (c .before .before .before .read-wide .ensures) (c .before .v .given .1)),
+      front-next s (a .count) (l .k) (search needs) (l .patterns) (l .inv .2) (c .before .v .given .0 .0) b (value-read (c .before .before .before .read-wide .ensures ∙ e) (c .before .v .given .1)),
     )
 
 returns-2 : tie.Need-returns-2 Inv-loop μ-loop
@@ -47,6 +56,9 @@ read-patterns-spec =
     Inv-loop
     μ-loop
     loop-holds
+    (λ c. search needs)
+    (λ c. search needs)
+    (λ c. search needs)
     (λ c. search needs)
     (λ c. search needs)
     (λ c. search needs)

@@ -1,0 +1,2 @@
+// Bytes taken several at a time, as one number.
+pub mod step;
