@@ -145,8 +145,8 @@ fn cases() -> Vec<(u32, u32, Vec<u8>, &'static str)> {
     let digits = column(text(&k()), 1, 16, "12345678901234567890");
     for at in 0..20 {
         for b in [b' ', b'/', b':', 0xb0] {
-            let number = if at == 0 && b == b' ' { 0 } else { 2 };
-            say(number, number, byte(digits.clone(), 1, 16 + at, b), "a byte among twenty digits");
+            let (number, line) = if at == 0 && b == b' ' { (0, 0) } else { (2, 2) };
+            say(number, line, byte(digits.clone(), 1, 16 + at, b), "a byte among twenty digits");
         }
     }
     for at in 0..4 {
@@ -154,7 +154,7 @@ fn cases() -> Vec<(u32, u32, Vec<u8>, &'static str)> {
             say(2, 2, byte(text(&k()), 1, 4 + at, b), "a byte in a narrow column");
         }
     }
-    // numbers of every length, behind blanks of every count; the largest are 2^64 - 1 and what is a little below it
+    // numbers of every length, behind blanks of every count; then numbers around 2^64, of which those below it are read
     for n in 1..21 {
         let ones = &"11111111111111111111"[..n];
         say(0, 0, column(text(&k()), 1, 16, &format!("{ones:>20}")), "so many digits");
@@ -177,7 +177,8 @@ fn cases() -> Vec<(u32, u32, Vec<u8>, &'static str)> {
         (2, "18446744080000000000"),
         (2, "20000000000000000000"),
     ] {
-        say(number, number, column(text(&k()), 1, 16, digits), "near 2^64");
+        let line = if number == 0 { 0 } else { 2 };
+        say(number, line, column(text(&k()), 1, 16, digits), "near 2^64");
     }
     // 3: the first line
     say(3, 1, text(&with(k(), 0, [1, 0, 0, 0, 0, 0])), "a cell line first");

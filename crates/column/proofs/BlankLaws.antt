@@ -11,24 +11,23 @@ use lib.Seq.{slice}
 use lib.Count.{trailingZeros}
 use borrow.Author.Tests.{eq-eqb, ne-eqb, eqb-true, eqb-false}
 use Rattle.array.proofs.TestLaws.{split}
-use Rattle.word.specs.Word.{wordOf, wordAt, lowZeros}
+use Rattle.word.specs.Word.{wordOf, wordAt, lowRun}
 use Rattle.word.proofs.WordLaws.{wordAt-low, wordAt-rest}
 use Rattle.word.proofs.ZeroLaws.{zeros-of-trailing}
 use Rattle.column.specs.Column.{dropBlanks}
-use Rattle.column.specs.Word.{blanksIn}
 use Rattle.column.proofs.ReadingLaws.{blanks-skip, blanks-stop}
 
-pub blanksIn-le : (m w : ℕ) → blanksIn m w ≤ m
-unfolding blanksIn
-blanksIn-le zero w = omega arith
-blanksIn-le (suc m) w =
-    split (eqb (w % 256) 32) (λ t. rw t (omega (arith, blanksIn-le m (w / 256)))) (λ t. rw t (omega arith))
+pub run-le : (m w : ℕ) → lowRun 32 m w ≤ m
+unfolding lowRun
+run-le zero w = omega arith
+run-le (suc m) w =
+    split (eqb (w % 256) 32) (λ t. rw t (omega (arith, run-le m (w / 256)))) (λ t. rw t (omega arith))
 
 -- ---- the difference from blanks
 
 -- up to the first other byte, a blank is a zero byte of the difference: nothing is borrowed before that byte
-difference-zeros : (m x w : ℕ) → (x + wordOf (replicate m 32)) % 256 ^ m ≡ w → lowZeros m x ≡ blanksIn m w
-unfolding lowZeros blanksIn wordOf
+difference-zeros : (m x w : ℕ) → (x + wordOf (replicate m 32)) % 256 ^ m ≡ w → lowRun 0 m x ≡ lowRun 32 m w
+unfolding lowRun wordOf
 difference-zeros zero x w e = refl
 difference-zeros (suc m) x w e =
     let b = wordOf (replicate m 32) in
@@ -44,7 +43,7 @@ difference-zeros (suc m) x w e =
     rw (t, eq-eqb (w % 256) 32 k) (ap suc (difference-zeros m (x / 256) (w / 256) (sym q))))
     (λ t. rw (t, ne-eqb (w % 256) 32 (λ k. eqb-false (x % 256) 0 t (omega arith))))
 
-pub trailing-blanks : (m x w : ℕ) → (x + wordOf (replicate m 32)) % 256 ^ m ≡ w → trailingZeros (8 * m) x / 8 ≡ blanksIn m w
+pub trailing-blanks : (m x w : ℕ) → (x + wordOf (replicate m 32)) % 256 ^ m ≡ w → trailingZeros (8 * m) x / 8 ≡ lowRun 32 m w
 trailing-blanks m x w e = zeros-of-trailing m x ∙ difference-zeros m x w e
 
 -- ---- a word of the line
@@ -77,8 +76,8 @@ module _ (s : List ℕ) (fits : (k : ℕ) → getD s k 0 < 256) where
       i + m ≤ t →
       t ≤ length s →
       (wordAt m s i ≡ wordOf (replicate m 32) → ⊥) →
-      dropBlanks (slice i t s) ≡ slice (i + blanksIn m (wordAt m s i)) t s
-  unfolding wordOf blanksIn
+      dropBlanks (slice i t s) ≡ slice (i + lowRun 32 m (wordAt m s i)) t s
+  unfolding wordOf lowRun
   word-stop zero i t h l e = absurd (e (word-none i))
   word-stop (suc m) i t h l e =
       let a = wordAt-low m s i (fits i) in
@@ -86,7 +85,7 @@ module _ (s : List ℕ) (fits : (k : ℕ) → getD s k 0 < 256) where
       split (eqb (getD s i 0) 32)
       (λ z.
       let b = eqb-true (getD s i 0) 32 z in
-      let n = blanksIn m (wordAt m s (i + 1)) in
+      let n = lowRun 32 m (wordAt m s (i + 1)) in
       let f : i + 1 + n ≡ i + suc n = omega arith in
       rw (a, r, z)
       (blanks-skip s i t (omega arith) l b

@@ -1,14 +1,14 @@
 -- The digits of two numbers below 10^4, found in all fields of a word at once.
 use mathlib.Core.Path.{_≡_, sym, ap, _∙_}
 use mathlib.Core.List.{_++_}
-use Prim.Native.Nat.{ℕ, _+_, _-_, _*_, _/_, _%_, _^_, _<_}
+use Prim.Native.Nat.{ℕ, _+_, _-_, _*_, _/_, _%_, _^_, _<_, _≤_}
 use native.Mathlib.Nat.{mod-lt}
 use native.Mathlib.Omega.{arith}
 use lib.Bits.{bitAnd, and-mask}
 use lib.Pow.{split, pow-pos, mod-mod-pow}
 use Rattle.word.specs.Word.{wordOf}
 use Rattle.word.proofs.FieldLaws.{mask-step}
-use Rattle.column.specs.Word.{digitList}
+use Rattle.column.specs.Digits.{digitList}
 
 -- ---- masks
 
@@ -87,12 +87,12 @@ quad-parts :
     q ≡ t₂ * 10 + u₂ →
     r ≡ t₃ * 10 + u₃ →
     s ≡ t₄ * 10 + u₄ →
-    quad p q r s * 256 - quad t₁ t₂ t₃ t₄ * 2559 ≡ quad (t₁ + u₁ * 256) (t₂ + u₂ * 256) (t₃ + u₃ * 256) (t₄ + u₄ * 256)
+    quad t₁ t₂ t₃ t₄ + (quad p q r s - quad t₁ t₂ t₃ t₄ * 10) * 256 ≡ quad (t₁ + u₁ * 256) (t₂ + u₂ * 256) (t₃ + u₃ * 256) (t₄ + u₄ * 256)
 quad-parts p q r s t₁ t₂ t₃ t₄ u₁ u₂ u₃ u₄ e₁ e₂ e₃ e₄ = omega arith
 
 pairs-parts :
     (p q r s : ℕ) →
-    quad p q r s * 256 - quad (p / 10) (q / 10) (r / 10) (s / 10) * 2559
+    quad (p / 10) (q / 10) (r / 10) (s / 10) + (quad p q r s - quad (p / 10) (q / 10) (r / 10) (s / 10) * 10) * 256
     ≡ quad (p / 10 + p % 10 * 256) (q / 10 + q % 10 * 256) (r / 10 + r % 10 * 256) (s / 10 + s % 10 * 256)
 pairs-parts p q r s =
     let e : (n : ℕ) → n ≡ n / 10 * 10 + n % 10 = λ n. omega arith in
@@ -109,6 +109,10 @@ four-digits a h l =
     let d₃ : a % 100 / 10 ≡ a / 10 % 10 = omega arith in
     let d₄ : a % 100 % 10 ≡ a % 10 = omega arith in
     rw (d₁, d₂, d₃, d₄) (omega arith)
+
+-- there is room for them
+pub parts-fit : (p t : ℕ) → p < 36028797018963968 → t ≤ 4222189076152335 → ((p - t * 10) * 256 < 2 ^ 64) × (t + (p - t * 10) * 256 < 2 ^ 64)
+parts-fit p t l h = (omega arith, omega arith)
 
 -- ---- the values of the code
 
@@ -137,7 +141,10 @@ module _ (a b : ℕ) (la : a < 10000) (lb : b < 10000) where
   pub tens-are : tensOf a b ≡ quad (a / 100 / 10) (a % 100 / 10) (b / 100 / 10) (b % 100 / 10)
   tens-are = ap (λ (x : ℕ). bitAnd (x * 103 / 1024) 4222189076152335) pairs-are ∙ tens-of (a / 100) (a % 100) (b / 100) (b % 100) (omega arith) (omega arith) (omega arith) (omega arith)
 
-  pub digits-are : pairsOf a b * 256 - tensOf a b * 2559 ≡ wordOf (digitList 4 a ++ digitList 4 b)
+  pub pairs-bound : pairsOf a b < 36028797018963968
+  pairs-bound = omega (arith, pairs-are)
+
+  pub digits-are : tensOf a b + (pairsOf a b - tensOf a b * 10) * 256 ≡ wordOf (digitList 4 a ++ digitList 4 b)
   unfolding wordOf digitList
   digits-are =
       let e : b / 100 / 10 + b / 100 % 10 * 256 + (b % 100 / 10 + b % 100 % 10 * 256) * 65536 ≡ pairsOfDigits b 0 = omega arith in

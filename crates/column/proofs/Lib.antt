@@ -6,6 +6,6 @@ pub mod RowLaws
 pub mod BufferLaws
 pub mod BytesLaws
 pub mod DigitWordLaws
-pub mod BlankedLaws
+pub mod PaddingLaws
 pub mod PrintLaws
 pub mod BlankLaws

@@ -14,9 +14,9 @@ use borrow.Author.Tests.{eqb-true, eqb-false, eq-eqb, ne-eqb}
 use Rattle.array.specs.Place.{placed}
 use Rattle.array.proofs.PlacedLaws.{placed-length}
 use Rattle.array.proofs.TestLaws.{split}
-use Rattle.word.specs.Word.{wordOf, bytesOf, lowZeros}
+use Rattle.word.specs.Word.{wordOf, bytesOf, lowRun}
 use Rattle.column.specs.Column.{mark, front, column}
-use Rattle.column.specs.Word.{digitList}
+use Rattle.column.specs.Digits.{digitList}
 use Rattle.column.proofs.WritingLaws.{blank-moved}
 
 -- ---- lists of digits
@@ -220,8 +220,8 @@ column-digits w (suc k) v p =
 -- ---- the bytes for digits as a word
 
 -- where the first byte that is not zero stands
-low-zeros : (m : ℕ) (s : List ℕ) (y : ℕ) (t : List ℕ) → length s < m → Below 256 s → 0 < y → y < 256 → lowZeros m (wordOf (s ++ (y ∷ t))) ≡ zeros s
-unfolding lowZeros wordOf
+low-zeros : (m : ℕ) (s : List ℕ) (y : ℕ) (t : List ℕ) → length s < m → Below 256 s → 0 < y → y < 256 → lowRun 0 m (wordOf (s ++ (y ∷ t))) ≡ zeros s
+unfolding lowRun wordOf
 low-zeros zero s y t l f p h = absurd (omega arith)
 low-zeros (suc m) [] y t l f p h = rw (ne-eqb ((y + 256 * wordOf t) % 256) 0 (λ e. omega arith))
 low-zeros (suc m) (x ∷ s) y t l f p h =
@@ -276,7 +276,7 @@ print-short :
     ≡ replicate w 32
     ++ bytesOf (suc k)
     (wordOf (digitList (suc k) v ++ t)
-    + (wordOf (replicate 8 48) - wordOf (replicate (lowZeros 8 (wordOf (digitList (suc k) v ++ t) + 256 ^ k)) 16)))
+    + (wordOf (replicate 8 48) - wordOf (replicate (lowRun 0 8 (wordOf (digitList (suc k) v ++ t) + 256 ^ k)) 16)))
 unfolding digitList
 print-short w k v t l m =
     let s = digitList k (v / 10) in
@@ -284,8 +284,8 @@ print-short w k v t l m =
     let d : (s ++ (x ∷ [])) ++ t ≡ s ++ (x ∷ t) = append-assoc s (x ∷ []) t in
     let n : length s ≡ k = digits-length k (v / 10) in
     let f = digits-below k (v / 10) in
-    let z : lowZeros 8 (wordOf (s ++ (x ∷ t)) + 256 ^ k) ≡ zeros s =
-    ap (lowZeros 8) (ap (λ (j : ℕ). wordOf (s ++ (x ∷ t)) + 256 ^ j) (sym n) ∙ word-plus s x t)
+    let z : lowRun 0 8 (wordOf (s ++ (x ∷ t)) + 256 ^ k) ≡ zeros s =
+    ap (lowRun 0 8) (ap (λ (j : ℕ). wordOf (s ++ (x ∷ t)) + 256 ^ j) (sym n) ∙ word-plus s x t)
     ∙ low-zeros 8 s (suc x) t (omega arith) (below-more 10 256 s (omega arith) f) (omega arith) (omega arith) in
     let j : length (s ++ (x ∷ t)) ≡ 8 = length-append s (x ∷ t) ∙ omega arith in
     let e : wordOf (s ++ (x ∷ t)) + (wordOf (replicate 8 48) - wordOf (replicate (zeros s) 16)) ≡ wordOf (trim s ++ glyphs (x ∷ t)) =
@@ -348,7 +348,7 @@ module _ (c l : List ℕ) (i v d : ℕ) (t : List ℕ) (m : i ≤ length l) (e :
       suc k + length t ≡ 8 →
       d ≡ wordOf (digitList (suc k) v ++ t) →
       v < 10 ^ suc k →
-      r ≡ d + (wordOf (replicate 8 48) - wordOf (replicate (lowZeros 8 (d + 256 ^ k)) 16)) →
+      r ≡ d + (wordOf (replicate 8 48) - wordOf (replicate (lowRun 0 8 (d + 256 ^ k)) 16)) →
       c ≡ replicate (i - suc k) 32 ++ drop (i - suc k) (placed l (i - suc k) (bytesOf (suc k) r))
   placed-short k r h n q p g =
       let j : i ≡ i - suc k + suc k = omega arith in
@@ -383,7 +383,7 @@ module _ (e l m t : List ℕ) (v i rest d : ℕ) (h : Written e v l i rest) wher
       suc k + length t ≡ 8 →
       d ≡ wordOf (digitList (suc k) rest ++ t) →
       rest < 10 ^ suc k →
-      r ≡ d + (wordOf (replicate 8 48) - wordOf (replicate (lowZeros 8 (d + 256 ^ k)) 16)) →
+      r ≡ d + (wordOf (replicate 8 48) - wordOf (replicate (lowRun 0 8 (d + 256 ^ k)) 16)) →
       m ≡ placed l (i - suc k) (bytesOf (suc k) r) →
       f ≡ replicate (i - suc k) 32 ++ drop (i - suc k) m →
       f ≡ column (length e) v

@@ -1,4 +1,4 @@
--- Reading a column byte by byte: what each test of the code says of the definitions.
+-- Reading a column: where the blanks end, which part of the line it is, how many digits it has.
 use mathlib.Core.Path.{_≡_, sym, ap, _∙_}
 use mathlib.Core.Bool.{cond, not, or-true}
 use mathlib.Core.Option.{none, some}

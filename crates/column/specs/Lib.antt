@@ -1,3 +1,3 @@
 pub mod Column
 pub mod Row
-pub mod Word
+pub mod Digits

@@ -10,7 +10,7 @@ pub mod step;
 
 // The part of the line that holds the digits of its column from..to, from where the blanks end.
 // Of a column that reaches past the line's end only what lies in the line counts.
-// Four bytes are tested at a time; of four that are not all blanks, the lowest byte of their difference from blanks that is not zero tells where the blanks end.
+// Four bytes at a time; of four that are not all blanks, the lowest byte that differs from a blank ends them.
 pub fn digits<'a>(line: &'a [u8], from: usize, to: usize) -> &'a [u8]
     ensures { λ r. ⌜ now r ≡ dropBlanks (slice from to (now (line .entry))) ⌝ }
 {
@@ -21,7 +21,7 @@ pub fn digits<'a>(line: &'a [u8], from: usize, to: usize) -> &'a [u8]
     }
     let mut i = from;
     while 4 <= end - i {
-        let w = word::step::four(line, i);
+        let w = word::step::read4(line, i);
         if w != step::BLANKS {
             i += step::blanks(w);
             return &line[i..end];
@@ -37,6 +37,7 @@ pub fn digits<'a>(line: &'a [u8], from: usize, to: usize) -> &'a [u8]
     &line[end..end]
 }
 
+// The number that the column shows. A narrow column has few digits, which are read inline.
 pub fn read(line: &[u8], from: usize, to: usize) -> Number
     ensures { λ r. ⌜ shown r ≡ numberShown (slice from to (now (line .entry))) ⌝ }
 {
@@ -66,11 +67,11 @@ pub fn write(out: &mut [u8], v: u64)
         rest = rest / 100000000;
         let d = step::digit_word(low / 10000, low % 10000);
         if rest == 0 {
-            word::step::put_eight(out, i, step::blanked(d, 72057594037927936));
-            step::fill(out, i);
+            word::step::write8(out, i, step::blanked(d, step::LAST_OF_EIGHT));
+            step::put_blanks(out, i);
             return;
         }
-        word::step::put_eight(out, i, d + step::ZEROS);
+        word::step::write8(out, i, d + step::ZEROS);
     }
     if 4 <= i {
         i -= 4;
@@ -78,11 +79,11 @@ pub fn write(out: &mut [u8], v: u64)
         rest = rest / 10000;
         let d = step::digit_word(low, 0);
         if rest == 0 {
-            word::step::put_four(out, i, step::blanked(d, 16777216));
-            step::fill(out, i);
+            word::step::write4(out, i, step::blanked(d, step::LAST_OF_FOUR));
+            step::put_blanks(out, i);
             return;
         }
-        word::step::put_four(out, i, d + step::ZEROS);
+        word::step::write4(out, i, d + step::ZEROS);
     }
     if i == 0 {
         return;

@@ -3,32 +3,39 @@ ghost use mathlib.Core.Path.{_≡_};
 ghost use Prim.Native.Nat.{_+_, _-_, _<_, _≤_, _^_};
 ghost use mathlib.Core.Bool.{false};
 ghost use mathlib.Core.List.{_++_};
+ghost use lib.Dec.{leb};
 ghost use lib.ListN.{length, drop, replicate};
 ghost use lib.Seq.{slice};
-ghost use Rattle.word.specs.Word.{wordOf, lowZeros};
+ghost use Rattle.word.specs.Word.{wordOf, lowRun};
 ghost use Rattle.column.specs.Column.{numberShown};
-ghost use Rattle.column.specs.Word.{blanksIn, digitList};
+ghost use Rattle.column.specs.Digits.{digitList};
 ghost use Rattle.numeral.specs.Answers.{shown};
 use numeral::Number;
 
 // Four blanks.
 pub const BLANKS: u32 = 0x20202020;
 
-// Eight zeros.
+// Eight bytes '0'.
 pub const ZEROS: u64 = 0x3030303030303030;
+
+// 1 in the place of the last of eight digits, and of four.
+pub const LAST_OF_EIGHT: u64 = 0x0100000000000000;
+
+pub const LAST_OF_FOUR: u64 = 0x01000000;
 
 // ---- reading
 
 // How many of four bytes are blanks, up to the first other.
 pub fn blanks(w: u32) -> usize
-    ensures { λ r. ⌜ r ≡ blanksIn 4 w ⌝ }
+    ensures { λ r. ⌜ r ≡ lowRun 32 4 w ⌝ }
 {
     (u32::trailing_zeros(std::num::wrapping_sub_u32(w, BLANKS)) / 8) as usize
 }
 
-// Whether more than seven bytes lie between two places.
+// Whether a column has eight bytes or more. With constant ends the compiler knows it, and leaves `numeral` out of narrow columns. If `to` lies before `from`,
+// either answer.
 pub fn is_wide(from: usize, to: usize) -> bool
-    ensures { λ r. ⌜ (r ≡ false → to < from + 8) ⌝ }
+    ensures { λ r. ⌜ (from ≤ to → r ≡ leb 8 (to - from)) × (r ≡ false → to < from + 8) ⌝ }
 {
     8 <= std::num::wrapping_sub_usize(to, from)
 }
@@ -57,21 +64,21 @@ pub fn digit_word(a: u64, b: u64) -> u64
     // Each field: its hundreds, then what is left: (fours - hundreds * 100) * 2^16 + hundreds.
     let pairs = fours * 65536 - hundreds * 6553599;
     let tens = ((pairs * 103) >> 10) & 0x000F000F000F000F;
-    // Likewise (pairs - tens * 10) * 2^8 + tens.
-    pairs * 256 - tens * 2559
+    let ones = pairs - tens * 10;
+    tens + ones * 256
 }
 
-// The bytes for a word of digits, with blanks for the zeros before the first other or the last digit, which is where `last` stands.
-pub fn blanked(digits: u64, last: u64) -> u64
-    requires { ⌜ (digits < 2 ^ 60) × (0 < last) × (last < 2 ^ 60) ⌝ }
-    ensures { λ r. ⌜ r ≡ digits + (wordOf (replicate 8 48) - wordOf (replicate (lowZeros 8 (digits + last)) 16)) ⌝ }
+// A word of digits as bytes: 48 added to each, but 32 to the zeros before the first other. `last` is 1 in the place of the last digit, so that a lone zero is printed.
+pub fn blanked(values: u64, last: u64) -> u64
+    requires { ⌜ (values < 2 ^ 60) × (0 < last) × (last < 2 ^ 60) ⌝ }
+    ensures { λ r. ⌜ r ≡ values + (wordOf (replicate 8 48) - wordOf (replicate (lowRun 0 8 (values + last)) 16)) ⌝ }
 {
-    let zeros = 8 * word::step::low_zeros(digits + last);
-    digits + (ZEROS - (0x1010101010101010 & ((1u64 << zeros) - 1)))
+    let bits = 8 * word::step::zero_bytes(values + last);
+    values + (ZEROS - (0x1010101010101010 & ((1u64 << bits) - 1)))
 }
 
-// Blanks up to a place.
-pub fn fill(out: &mut [u8], n: usize)
+// Blanks in the first n bytes.
+pub fn put_blanks(out: &mut [u8], n: usize)
     requires { ⌜ n ≤ length (now out) ⌝ }
     ensures { λ _. ⌜ now (out .exit) ≡ replicate n 32 ++ drop n (now (out .entry)) ⌝ }
 {

@@ -84,6 +84,7 @@ fn read_patterns(line: &[u8], count: usize, patterns: &mut [u64; Plan::SENSORS])
     let mut k: usize = 0;
     while k < count {
         let at = FILL + PATTERN * k;
+        // Lent by itself, so that its ends are constants.
         let Number::Value(v) = column::step::read_wide(&line[at..at + PATTERN], 0, PATTERN) else {
             return false;
         };

@@ -14,7 +14,7 @@ use Rattle.array.specs.Index.{allBelow}
 use Rattle.array.proofs.TestLaws.{split, clash, and-left, and-right, and-both}
 use Rattle.array.proofs.IndexLaws.{allBelow-at, allBelow-all}
 use Rattle.word.specs.Word.{wordOf, wordAt}
-use Rattle.word.proofs.FieldLaws.{mask-step}
+use Rattle.word.proofs.FieldLaws.{and-field, mask-step}
 use Rattle.numeral.specs.Numeral.{isDigit}
 use Rattle.numeral.specs.Part.{decimalFrom}
 
@@ -27,11 +27,7 @@ Below c (suc m) x = (x % 256 < c) × Below c m (x / 256)
 
 -- the lowest byte, and the bytes above it
 and-low : (x a m : ℕ) → a < 256 → bitAnd x (a + 256 * m) ≡ bitAnd (x % 256) a + 256 * bitAnd (x / 256) m
-and-low x a m l =
-    let e : x ≡ x / 256 * 256 + x % 256 = omega arith in
-    let f : a + 256 * m ≡ m * 256 + a = omega arith in
-    let g : bitAnd x (a + 256 * m) ≡ bitAnd (x / 256 * 256 + x % 256) (m * 256 + a) = rw f (ap (λ (y : ℕ). bitAnd y (m * 256 + a)) e) in
-    g ∙ and-block 8 (x / 256) m (x % 256) a (omega arith) l ∙ omega arith
+and-low x a m l = let f : a + 256 * m ≡ m * 2 ^ 8 + a = omega arith in ap (bitAnd x) f ∙ and-field 8 x a m l ∙ omega arith
 
 -- of a byte
 and-high : (b : ℕ) → b < 256 → bitAnd b 128 ≡ b / 128 * 128

@@ -1,6 +1,6 @@
--- Reading digits byte by byte: what each test of the code says of the definitions.
+-- What each test of the code says of `numeralOf`.
 use mathlib.Core.Path.{_≡_, refl, ap, _∙_}
-use mathlib.Core.Bool.{Bool, true, false, _||_, and-false}
+use mathlib.Core.Bool.{Bool, true, false, _&&_, _||_, and-false}
 use mathlib.Core.List.{List}
 use mathlib.Core.Option.{none, some}
 use Prim.Native.Nat.{ℕ, zero, suc, _+_, _-_, _*_, _%_, _^_, _<_, _≤_}
@@ -11,10 +11,10 @@ use lib.ListN.{length, getD}
 use lib.Dec.{leb, ltb, eqb, lit<}
 use borrow.Author.Tests.{eq-eqb, ne-eqb, le-leb, lt-leb, lt-ltb, le-ltb, eqb-true, eqb-false, leb-true, leb-false, ltb-true, ltb-false}
 use Rattle.array.specs.Index.{allBelow}
-use Rattle.array.proofs.TestLaws.{split, clash, and-false-right}
+use Rattle.array.proofs.TestLaws.{split, clash, and-left, and-right, and-false-right}
 use Rattle.array.proofs.IndexLaws.{allBelow-more, allBelow-fails}
 use Rattle.numeral.specs.Numeral.{isDigit, decimal, isNumeral, numeralOf}
-use Rattle.numeral.specs.Part.{digitOf, decimalFrom}
+use Rattle.numeral.specs.Part.{decimalFrom}
 
 second-or : (a b : Bool) → (a || b) ≡ true → a ≡ false → b ≡ true
 second-or true b e f = absurd (clash refl f)
@@ -24,24 +24,34 @@ none-or : (a b : Bool) → (a || b) ≡ false → (a ≡ false) × (b ≡ false)
 none-or true b e = absurd (clash refl e)
 none-or false b e = (refl, e)
 
--- ---- a byte without the 48 of '0'
+-- ---- what a byte shows
 
-module _ (b : ℕ) (l : b < 256) where
-  pub digit-wraps : {r : ℕ} → (r + 48) % 2 ^ 64 ≡ b → r < 2 ^ 64 → r ≡ digitOf b
-  unfolding digitOf
-  digit-wraps e f = omega (arith, l)
+-- what `digit` says of a byte
+abbrev pub DigitIs : ℕ → ℕ → Type 0
+DigitIs b r = (isDigit b ≡ true → r ≡ b - 48) × (isDigit b ≡ false → 9 < r)
 
-  -- at most 9: a digit
-  pub digit-yes : digitOf b ≤ 9 → (48 ≤ b) × (b ≤ 57) × (digitOf b ≡ b - 48)
-  unfolding digitOf
-  digit-yes h = (omega (arith, l), omega (arith, l), omega (arith, l))
+module _ (b : ℕ) {r : ℕ} where
+  pub digit-wraps : b < 256 → (r + 48) % 2 ^ 64 ≡ b → r < 2 ^ 64 → DigitIs b r
+  digit-wraps l e f = (
+    (λ t. let h = leb-true 48 b (and-left (leb 48 b) (leb b 57) t) in omega (arith, l, e, f, h)),
+    (λ t.
+        split (leb 48 b)
+        (λ u. let h = leb-false b 57 (rw u at t) in omega (arith, l, e, f, h))
+        (λ u. let h = leb-false 48 b u in omega (arith, l, e, f, h))),
+  )
 
-  pub digit-no : 9 < digitOf b → isDigit b ≡ false
-  unfolding digitOf
-  digit-no h =
-      split (leb 48 b)
-      (λ t. and-false-right (leb 48 b) (lt-leb b 57 (omega (arith, l, leb-true 48 b t))))
-      (λ t. rw t)
+  module _ (h : DigitIs b r) where
+    pub digit-yes : r ≤ 9 → (48 ≤ b) × (b ≤ 57) × (r ≡ b - 48)
+    digit-yes l =
+        split (isDigit b)
+        (λ t. (leb-true 48 b (and-left (leb 48 b) (leb b 57) t), leb-true b 57 (and-right (leb 48 b) (leb b 57) t), h .0 t))
+        (λ t. absurd (omega (arith, l, h .1 t)))
+
+    pub digit-no : 9 < r → isDigit b ≡ false
+    digit-no l =
+        split (isDigit b)
+        (λ t. absurd (omega (arith, l, h .0 t, leb-true b 57 (and-right (leb 48 b) (leb b 57) t))))
+        (λ t. t)
 
 -- a digit more
 pub power-more : (v x i : ℕ) → v < 10 ^ i → x < 10 → v * 10 + x < 10 ^ (i + 1)
@@ -119,20 +129,34 @@ module _ (d : List ℕ) where
   numeral-long : 20 < length d → 48 < getD d 0 0 → none ≡ numeralOf d
   numeral-long l h = numeral-large 21 l (omega (arith, decimal-power 20 h))
 
-  -- eight bytes or more that start with a zero, or more than twenty
-  pub numeral-many : 8 ≤ length d → (eqb (getD d 0 0) 48 || ltb 20 (length d)) ≡ true → none ≡ numeralOf d
-  numeral-many l e =
+  pub numeral-too-long : 20 < length d → none ≡ numeralOf d
+  numeral-too-long h =
+      split (leb 48 (getD d 0 0))
+      (λ q.
       split (eqb (getD d 0 0) 48)
       (λ t. numeral-zeros (eqb-true (getD d 0 0) 48 t) (λ n. omega arith))
-      (λ t. let h : 20 < length d = ltb-true 20 (length d) (second-or (eqb (getD d 0 0) 48) (ltb 20 (length d)) e t) in
-      split (leb 48 (getD d 0 0))
-      (λ q. numeral-long h (omega (arith, leb-true 48 (getD d 0 0) q, eqb-false (getD d 0 0) 48 t)))
-      (λ q. numeral-low 0 (omega arith) (leb-false 48 (getD d 0 0) q)))
+      (λ t. numeral-long h (omega (arith, leb-true 48 (getD d 0 0) q, eqb-false (getD d 0 0) 48 t))))
+      (λ q. numeral-low 0 (omega arith) (leb-false 48 (getD d 0 0) q))
 
-  pub numeral-first : (eqb (getD d 0 0) 48 || ltb 20 (length d)) ≡ false → (getD d 0 0 ≡ 48 → ⊥) × (length d ≤ 20)
-  numeral-first e =
-      let n = none-or (eqb (getD d 0 0) 48) (ltb 20 (length d)) e in
-      (eqb-false (getD d 0 0) 48 (n .0), ltb-false 20 (length d) (n .1))
+  -- the test of the first byte: it shows no digit, or a zero before others
+  module _ {r : ℕ} (p : 0 < length d) (h : DigitIs (getD d 0 0) r) where
+    pub first-bad : (ltb 9 r || (eqb r 0 && ltb 1 (length d))) ≡ true → none ≡ numeralOf d
+    first-bad e =
+        split (ltb 9 r)
+        (λ t. numeral-other 0 p (digit-no (getD d 0 0) h (ltb-true 9 r t)))
+        (λ t.
+        let z = second-or (ltb 9 r) (eqb r 0 && ltb 1 (length d)) e t in
+        let x = digit-yes (getD d 0 0) h (ltb-false 9 r t) in
+        let q = eqb-true r 0 (and-left (eqb r 0) (ltb 1 (length d)) z) in
+        let l = ltb-true 1 (length d) (and-right (eqb r 0) (ltb 1 (length d)) z) in
+        numeral-zeros (omega (arith, x, q)) (λ n. omega (arith, n, l)))
+
+    pub first-good : (ltb 9 r || (eqb r 0 && ltb 1 (length d))) ≡ false → (r ≤ 9) × (getD d 0 0 ≡ 48 → length d ≡ 1)
+    first-good e =
+        let n = none-or (ltb 9 r) (eqb r 0 && ltb 1 (length d)) e in
+        let l = ltb-false 9 r (n .0) in
+        let x = digit-yes (getD d 0 0) h l in
+        (l, λ z. let q : r ≡ 0 = omega (arith, x .2, z) in omega (arith, p, ltb-false 1 (length d) (rw (eq-eqb r 0 q) at (n .1))))
 
   -- ---- what is read
 
@@ -151,21 +175,17 @@ module _ (d : List ℕ) where
   unfolding numeralOf
   numeral-read e l = rw (e, lt-ltb (decimal d (length d)) (2 ^ 64) l)
 
-  -- each byte was a digit, and the first no zero
+  -- each byte was a digit, and the first no zero before others
   pub numeral-whole :
       (i v : ℕ) →
       i ≡ length d →
       v ≡ decimal d i →
       allBelow (λ k. isDigit (getD d k 0)) i ≡ true →
       (length d ≡ 0 → ⊥) →
-      (getD d 0 0 ≡ 48 → ⊥) →
+      (getD d 0 0 ≡ 48 → length d ≡ 1) →
       v < 2 ^ 64 →
       some v ≡ numeralOf d
   numeral-whole i v e q a n z l =
       let m : v ≡ decimal d (length d) = q ∙ ap (decimal d) e in
-      let w : isNumeral d ≡ true = wellFormed-all (omega arith) (λ t. absurd (z t)) (rw (← e) a) in
+      let w : isNumeral d ≡ true = wellFormed-all (omega arith) z (rw (← e) a) in
       ap some m ∙ numeral-read w (rw (← m) l)
-
-  pub numeral-zero : getD d 0 0 ≡ 48 → length d ≡ 1 → some 0 ≡ numeralOf d
-  unfolding numeralOf isNumeral decimal allBelow
-  numeral-zero e n = rw (n, e)

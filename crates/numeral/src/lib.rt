@@ -20,7 +20,7 @@ pub fn numeral(d: &[u8]) -> Number
         return step::few(d);
     }
     // More than twenty digits are above 2^64 - 1. Nineteen are below 2^64: only at a twentieth is the number tested.
-    if (d[0] == 48) | (20 < n) {
+    if 20 < n {
         return Number::Malformed;
     }
     let most = if n < 20 { n } else { 19 };
@@ -30,6 +30,10 @@ pub fn numeral(d: &[u8]) -> Number
         let Number::Value(e) = step::eight(d, i) else {
             return Number::Malformed;
         };
+        // The first eight begin with a zero.
+        if (i == 0) & (e < 10000000) {
+            return Number::Malformed;
+        }
         v = v * 100000000 + e;
         i += 8;
     }

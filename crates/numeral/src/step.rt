@@ -1,18 +1,18 @@
 // Digits one by one and eight at a time, for callers that know how many there are.
 ghost use mathlib.Core.Path.{_≡_};
-ghost use mathlib.Core.Bool.{cond};
+ghost use mathlib.Core.Bool.{true, false, cond};
 ghost use mathlib.Core.Option.{none, some};
 ghost use Prim.Native.Nat.{_+_, _-_, _<_, _≤_};
 ghost use lib.ListN.{length, getD};
 ghost use Rattle.array.specs.Index.{allBelow};
 ghost use Rattle.numeral.specs.Numeral.{isDigit, numeralOf};
-ghost use Rattle.numeral.specs.Part.{decimalFrom, digitOf};
+ghost use Rattle.numeral.specs.Part.{decimalFrom};
 ghost use Rattle.numeral.specs.Answers.{shown};
 use super::Number;
 
 // The digit that a byte shows; above 9 if it shows none.
 pub fn digit(b: u8) -> u64
-    ensures { λ r. ⌜ r ≡ digitOf b ⌝ }
+    ensures { λ r. ⌜ (isDigit b ≡ true → r ≡ b - 48) × (isDigit b ≡ false → 9 < r) ⌝ }
 {
     std::num::wrapping_sub_u64(b as u64, 48)
 }
@@ -37,14 +37,12 @@ pub fn few(d: &[u8]) -> Number
     if n == 0 {
         return Number::Malformed;
     }
-    if d[0] == 48 {
-        if n == 1 {
-            return Number::Value(0);
-        }
+    let mut v = digit(d[0]);
+    // No zero before others.
+    if (9 < v) | ((v == 0) & (1 < n)) {
         return Number::Malformed;
     }
-    let mut v: u64 = 0;
-    let mut i: usize = 0;
+    let mut i: usize = 1;
     while i < n {
         let x = digit(d[i]);
         if 9 < x {
@@ -62,7 +60,7 @@ pub fn eight(d: &[u8], i: usize) -> Number
     requires { ⌜ i + 8 ≤ length (now d) ⌝ }
     ensures { λ r. ⌜ shown r ≡ cond (allBelow (λ k. isDigit (getD (now (d .entry)) (i + k) 0)) 8) (some (decimalFrom (now (d .entry)) i 8)) none ⌝ }
 {
-    let x = std::num::wrapping_sub_u64(word::step::eight(d, i), 0x3030303030303030);
+    let x = std::num::wrapping_sub_u64(word::step::read8(d, i), 0x3030303030303030);
     // A byte is at most 9 if neither it nor it with 118 more has its high bit.
     let y = std::num::wrapping_add_u64(x, 0x7676767676767676);
     if !(((x & 0x8080808080808080) == 0) & ((y & 0x8080808080808080) == 0)) {

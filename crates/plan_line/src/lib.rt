@@ -80,9 +80,9 @@ pub fn read_line(line: &[u8]) -> LineRead
     if line.len() != Line::SIZE {
         return LineRead::Malformed;
     }
-    // The wide columns first: calls behind returns are not inlined.
-    let wide = column::step::read_wide(line, Line::FIFTH, Line::SIXTH);
-    let last = column::step::read_wide(line, Line::SIXTH, Line::FEED);
+    // The wide columns are read before any return, so that `read_wide` is inlined; their answers are looked at in the columns' order.
+    let fifth_shown = column::step::read_wide(line, Line::FIFTH, Line::SIXTH);
+    let sixth_shown = column::step::read_wide(line, Line::SIXTH, Line::FEED);
     let Number::Value(kind) = column::read(line, 0, Line::SECOND) else {
         return LineRead::Malformed;
     };
@@ -95,10 +95,10 @@ pub fn read_line(line: &[u8]) -> LineRead
     let Number::Value(fourth) = column::read(line, Line::FOURTH, Line::FIFTH) else {
         return LineRead::Malformed;
     };
-    let Number::Value(fifth) = wide else {
+    let Number::Value(fifth) = fifth_shown else {
         return LineRead::Malformed;
     };
-    let Number::Value(sixth) = last else {
+    let Number::Value(sixth) = sixth_shown else {
         return LineRead::Malformed;
     };
     if line[Line::FEED] != b'\n' {

@@ -9,7 +9,7 @@ use lib.Pow.{pow-pos}
 use lib.Count.{trailingZeros}
 use borrow.Author.Tests.{eqb-true, eqb-false}
 use Rattle.array.proofs.TestLaws.{split}
-use Rattle.word.specs.Word.{lowZeros}
+use Rattle.word.specs.Word.{lowRun}
 
 module _ (k n : ℕ) where
   even-zeros : n % 2 ≡ 0 → trailingZeros (suc k) n ≡ suc (trailingZeros k (n / 2))
@@ -43,8 +43,8 @@ zeros-below k (suc j) n e =
     (λ t. rw (odd-zeros (k + j) n (omega (arith, eqb-false (n % 2) 0 t))) (omega arith)))
 
 -- eight to a byte
-pub zeros-of-trailing : (m n : ℕ) → trailingZeros (8 * m) n / 8 ≡ lowZeros m n
-unfolding lowZeros trailingZeros
+pub zeros-of-trailing : (m n : ℕ) → trailingZeros (8 * m) n / 8 ≡ lowRun 0 m n
+unfolding lowRun trailingZeros
 zeros-of-trailing zero n = refl
 zeros-of-trailing (suc m) n =
     let d : 8 * suc m ≡ 8 * m + 8 = omega arith in

@@ -1,4 +1,4 @@
--- Bytes as one number, the first lowest, and the bytes of a number.
+-- Little-endian words: bytes as one number, the first lowest, and the bytes of a number.
 use Prim.Native.Nat.{ℕ, zero, suc, _+_, _*_, _/_, _%_}
 use mathlib.Core.Bool.{cond}
 use mathlib.Core.List.{List, [], _∷_}
@@ -20,7 +20,7 @@ unfoldable pub bytesOf : ℕ → ℕ → List ℕ
 bytesOf zero w = []
 bytesOf (suc m) w = w % 256 ∷ bytesOf m (w / 256)
 
--- how many of the m lowest bytes are zero, up to the first other
-unfoldable pub lowZeros : ℕ → ℕ → ℕ
-lowZeros zero w = 0
-lowZeros (suc m) w = cond (eqb (w % 256) 0) (suc (lowZeros m (w / 256))) 0
+-- how many of the m lowest bytes are b, up to the first other
+unfoldable pub lowRun : ℕ → ℕ → ℕ → ℕ
+lowRun b zero w = 0
+lowRun b (suc m) w = cond (eqb (w % 256) b) (suc (lowRun b m (w / 256))) 0

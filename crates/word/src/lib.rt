@@ -1,2 +1,2 @@
-// Bytes taken several at a time, as one number.
+// Little-endian words in byte slices.
 pub mod step;

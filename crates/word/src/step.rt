@@ -1,28 +1,26 @@
-// Four and eight bytes as a number, the first byte lowest: the compiler makes one load or store of them.
+// Little-endian words in byte slices: the compiler makes one load or store of them.
 ghost use mathlib.Core.Path.{_≡_};
 ghost use Prim.Native.Nat.{_+_, _≤_};
 ghost use lib.ListN.{length};
 ghost use Rattle.array.specs.Place.{placed};
-ghost use Rattle.word.specs.Word.{wordAt, bytesOf, lowZeros};
+ghost use Rattle.word.specs.Word.{wordAt, bytesOf, lowRun};
 
-pub fn four(s: &[u8], i: usize) -> u32
+pub fn read4(s: &[u8], i: usize) -> u32
     requires { ⌜ i + 4 ≤ length (now s) ⌝ }
     ensures { λ r. ⌜ r ≡ wordAt 4 (now (s .entry)) i ⌝ }
 {
-    let a = s[i] as u32 + s[i + 1] as u32 * 256;
-    let b = s[i + 2] as u32 + s[i + 3] as u32 * 256;
-    a + b * 65536
+    s[i] as u32 + s[i + 1] as u32 * 256 + s[i + 2] as u32 * 65536 + s[i + 3] as u32 * 16777216
 }
 
-pub fn eight(s: &[u8], i: usize) -> u64
+pub fn read8(s: &[u8], i: usize) -> u64
     requires { ⌜ i + 8 ≤ length (now s) ⌝ }
     ensures { λ r. ⌜ r ≡ wordAt 8 (now (s .entry)) i ⌝ }
 {
-    four(s, i) as u64 + four(s, i + 4) as u64 * 4294967296
+    read4(s, i) as u64 + read4(s, i + 4) as u64 * 4294967296
 }
 
-// Stores the four lowest bytes of a number.
-pub fn put_four(out: &mut [u8], i: usize, w: u64)
+// The four lowest bytes of a number, stored.
+pub fn write4(out: &mut [u8], i: usize, w: u64)
     requires { ⌜ i + 4 ≤ length (now out) ⌝ }
     ensures { λ _. ⌜ now (out .exit) ≡ placed (now (out .entry)) i (bytesOf 4 w) ⌝ }
 {
@@ -32,17 +30,17 @@ pub fn put_four(out: &mut [u8], i: usize, w: u64)
     out[i + 3] = (w / 16777216 % 256) as u8;
 }
 
-pub fn put_eight(out: &mut [u8], i: usize, w: u64)
+pub fn write8(out: &mut [u8], i: usize, w: u64)
     requires { ⌜ i + 8 ≤ length (now out) ⌝ }
     ensures { λ _. ⌜ now (out .exit) ≡ placed (now (out .entry)) i (bytesOf 8 w) ⌝ }
 {
-    put_four(out, i, w);
-    put_four(out, i + 4, w / 4294967296);
+    write4(out, i, w);
+    write4(out, i + 4, w / 4294967296);
 }
 
 // How many of a number's eight bytes are zero, from the lowest up to the first other.
-pub fn low_zeros(w: u64) -> usize
-    ensures { λ r. ⌜ r ≡ lowZeros 8 w ⌝ }
+pub fn zero_bytes(w: u64) -> usize
+    ensures { λ r. ⌜ r ≡ lowRun 0 8 w ⌝ }
 {
     (u64::trailing_zeros(w) / 8) as usize
 }

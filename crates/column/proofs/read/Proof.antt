@@ -14,7 +14,7 @@ returns c = c .numeral .ensures ∙ ap numeralOf (c .before .before .before .dig
 few-requires : tie.Need-few-requires
 few-requires c κs =
     let a = c .before .before .before .before .args in
-    rw (c .before .before .digits .ensures) (digits-few (a .line .now) (a .from) (a .to) (c .before .is-wide .ensures (c .if1 .left)))
+    rw (c .before .before .digits .ensures) (digits-few (a .line .now) (a .from) (a .to) (c .before .is-wide .ensures .1 (c .if1 .left)))
 
 returns-2 : tie.Need-returns-2
 unfolding numberShown

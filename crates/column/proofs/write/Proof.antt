@@ -7,7 +7,7 @@ use native.Mathlib.Omega.{arith}
 use lib.ListN.{length, set, drop, length-set}
 use borrow.Author.Needs.{needs}
 use Rattle.column.specs.Column.{column, front}
-use Rattle.column.specs.Word.{digitList}
+use Rattle.column.specs.Digits.{digitList}
 use Rattle.column.proofs.PrintLaws.{Written, written-digits, written-short, digits-eight, digits-four, digits-room, digits-length}
 use Rattle.column.proofs.WritingLaws.{column-start, column-end, column-next, front-next}
 use Rattle.column.proofs.write.Statement.{statement}
@@ -17,9 +17,9 @@ use Rattle.column.proofs.write.Lts as lts
 use Rattle.column.proofs.glyph.Reads as glyph-reads
 use Rattle.column.proofs.step.blanked.Reads as blanked-reads
 use Rattle.column.proofs.step.digit_word.Reads as digit-word-reads
-use Rattle.column.proofs.step.fill.Reads as fill-reads
-use Rattle.word.proofs.step.put_eight.Reads as put-eight-reads
-use Rattle.word.proofs.step.put_four.Reads as put-four-reads
+use Rattle.column.proofs.step.put_blanks.Reads as put-blanks-reads
+use Rattle.word.proofs.step.write8.Reads as write8-reads
+use Rattle.word.proofs.step.write4.Reads as write4-reads
 
 abbrev Inv-loop : tie.InvT-loop
 Inv-loop out₀ v i₀ rest₀ out i rest = Written out₀ v out i rest
@@ -49,20 +49,20 @@ returns c =
     let a = d .before .before .before .before .args in
     let p : 8 ≤ l .i = omega (arith, d .before .loop-test) in
     let short : l .rest < 100000000 = omega (arith, m .before .before .before .if1 .taken) in
-    written-short (a .out .now) (l .out) (m .put-eight .last .0) [] (a .v) (l .i) (l .rest) (d .digit-word .result) (l .inv)
+    written-short (a .out .now) (l .out) (m .write8 .last .0) [] (a .v) (l .i) (l .rest) (d .digit-word .result) (l .inv)
     7
     (m .before .blanked .result)
-    (c .before .before .fill .last .0)
+    (c .before .before .put-blanks .last .0)
     p
     (search needs)
     (d .digit-word .ensures ∙ digits-eight (l .rest))
     short
     (m .before .blanked .ensures)
-    (m .put-eight .ensures)
-    (c .before .before .fill .ensures)
+    (m .write8 .ensures)
+    (c .before .before .put-blanks .ensures)
 
-add-put-eight : tie.Need-add-put-eight Inv-loop μ-loop Inv-loop2 μ-loop2
-add-put-eight c =
+add-write8 : tie.Need-add-write8 Inv-loop μ-loop Inv-loop2 μ-loop2
+add-write8 c =
     let d = c .before .before in
     let m = d .before .before .loop .rest % 100000000 in omega (arith, d .digit-word .ensures, digits-room (m / 10000) (m % 10000))
 
@@ -74,13 +74,13 @@ loop-again c =
     let a = d .before .before .before .before .args in
     let p : 8 ≤ l .i = omega (arith, d .before .loop-test) in
     let wider : 0 < l .rest / 100000000 = omega (arith, m .before .before .if1 .left) in
-    written-digits (a .out .now) (l .out) (m .put-eight2 .last .0) [] (a .v) (l .i) (l .rest) (d .digit-word .result) (l .inv)
+    written-digits (a .out .now) (l .out) (m .write82 .last .0) [] (a .v) (l .i) (l .rest) (d .digit-word .result) (l .inv)
     8
     p
     (search needs)
     (d .digit-word .ensures ∙ digits-eight (l .rest))
     wider
-    (m .put-eight2 .ensures)
+    (m .write82 .ensures)
 
 blanked-requires-2 : tie.Need-blanked-requires-2 Inv-loop μ-loop Inv-loop2 μ-loop2
 blanked-requires-2 c κs =
@@ -94,20 +94,20 @@ returns-2 c =
     let a = d .before .before .before .before .before .args in
     let p : 4 ≤ l .i = omega (arith, d .before .if2 .taken) in
     let short : l .rest < 10000 = omega (arith, m .before .before .before .if3 .taken) in
-    written-short (a .out .now) (l .out) (m .put-four .last .0) (digitList 4 0) (a .v) (l .i) (l .rest) (d .digit-word2 .result) (l .inv)
+    written-short (a .out .now) (l .out) (m .write4 .last .0) (digitList 4 0) (a .v) (l .i) (l .rest) (d .digit-word2 .result) (l .inv)
     3
     (m .before .blanked2 .result)
-    (c .before .before .fill2 .last .0)
+    (c .before .before .put-blanks2 .last .0)
     p
     (ap (λ (n : ℕ). 4 + n) (digits-length 4 0))
     (d .digit-word2 .ensures ∙ digits-four (l .rest))
     short
     (m .before .blanked2 .ensures)
-    (m .put-four .ensures)
-    (c .before .before .fill2 .ensures)
+    (m .write4 .ensures)
+    (c .before .before .put-blanks2 .ensures)
 
-add-put-four : tie.Need-add-put-four Inv-loop μ-loop Inv-loop2 μ-loop2
-add-put-four c =
+add-write4 : tie.Need-add-write4 Inv-loop μ-loop Inv-loop2 μ-loop2
+add-write4 c =
     let d = c .before .before in omega (arith, d .digit-word2 .ensures, digits-room (d .before .before .before .loop .rest % 10000) 0)
 
 -- where the code for four digits is done or was passed by
@@ -118,12 +118,12 @@ Joined =
       digit-word-reads.Learnt,
       blanked-reads.Asked,
       blanked-reads.Learnt,
-      put-eight-reads.Asked,
-      put-eight-reads.Learnt,
-      fill-reads.Asked,
-      fill-reads.Learnt,
-      put-four-reads.Asked,
-      put-four-reads.Learnt,
+      write8-reads.Asked,
+      write8-reads.Learnt,
+      put-blanks-reads.Asked,
+      put-blanks-reads.Learnt,
+      write4-reads.Asked,
+      write4-reads.Learnt,
       glyph-reads.Asked,
       glyph-reads.Learnt,
     )
@@ -232,7 +232,7 @@ write-spec =
     (λ c κs. search needs)
     (λ c. search needs)
     returns
-    add-put-eight
+    add-write8
     (λ c κs. search needs)
     (λ c. search needs)
     loop-again
@@ -242,7 +242,7 @@ write-spec =
     (λ c κs. search needs)
     (λ c. search needs)
     returns-2
-    add-put-four
+    add-write4
     (λ c κs. search needs)
     same-length-3
     returns-3

@@ -53,8 +53,8 @@ returns-9 c =
     (value-read (x₂ .before .before .read2 .ensures) (x₂ .second .given .1))
     (value-read (x₃ .before .before .read3 .ensures) (x₃ .third .given .1))
     (value-read (x₄ .before .before .read4 .ensures) (x₄ .fourth .given .1))
-    (value-read (w .before .read-wide .ensures) (x₅ .wide .given .1))
-    (value-read (w .read-wide2 .ensures) (x₆ .last .given .1))
+    (value-read (w .before .read-wide .ensures) (x₅ .fifth-shown .given .1))
+    (value-read (w .read-wide2 .ensures) (x₆ .sixth-shown .given .1))
 
 pub read-line-spec : {M : Type 1} → statement M
 read-line-spec =

@@ -5,35 +5,35 @@ use native.Mathlib.Omega.{arith}
 use lib.ListN.{replicate}
 use borrow.Author.Needs.{needs}
 use Rattle.word.specs.Word.{wordOf}
-use Rattle.column.proofs.BlankedLaws.{low-zeros-lt, shift-above, blanks-mask, blanks-room, glyphs-fit}
+use Rattle.column.proofs.PaddingLaws.{low-zeros-lt, shift-above, blanks-mask, blanks-room, glyphs-fit}
 use Rattle.column.proofs.step.blanked.Statement.{statement}
 use Rattle.column.proofs.step.blanked.Tie as tie
 
-mul-zeros : tie.Need-mul-zeros
-mul-zeros c = omega (arith, c .low-zeros .ensures, low-zeros-lt 8 (c .before .args .digits + c .before .args .last) (omega arith) (omega arith))
+mul-bits : tie.Need-mul-bits
+mul-bits c = omega (arith, c .zero-bytes .ensures, low-zeros-lt 8 (c .before .args .values + c .before .args .last) (omega arith) (omega arith))
 
 shl-result : tie.Need-shl-result
-shl-result c = omega (arith, c .low-zeros .ensures, low-zeros-lt 8 (c .before .args .digits + c .before .args .last) (omega arith) (omega arith))
+shl-result c = omega (arith, c .zero-bytes .ensures, low-zeros-lt 8 (c .before .args .values + c .before .args .last) (omega arith) (omega arith))
 
 sub-result : tie.Need-sub-result
 sub-result c =
-    shift-above (c .low-zeros .result)
-    (omega (arith, c .low-zeros .ensures, low-zeros-lt 8 (c .before .args .digits + c .before .args .last) (omega arith) (omega arith)))
+    shift-above (c .zero-bytes .result)
+    (omega (arith, c .zero-bytes .ensures, low-zeros-lt 8 (c .before .args .values + c .before .args .last) (omega arith) (omega arith)))
 
 sub-result-2 : tie.Need-sub-result-2
 sub-result-2 c = blanks-room _
 
 add-result : tie.Need-add-result
-add-result c = glyphs-fit (c .before .args .digits) _ (c .before .pre .0)
+add-result c = glyphs-fit (c .before .args .values) _ (c .before .pre .0)
 
 returns : tie.Need-returns
 unfolding wordOf
 returns c =
-    let d = c .before .args .digits in
-    let z = c .low-zeros .result in
-    let l : z < 8 = omega (arith, c .low-zeros .ensures, low-zeros-lt 8 (d + c .before .args .last) (omega arith) (omega arith)) in
-    ap (λ (x : ℕ). d + (3472328296227680304 - x)) (blanks-mask z l ∙ ap (λ (n : ℕ). wordOf (replicate n 16)) (c .low-zeros .ensures))
+    let d = c .before .args .values in
+    let z = c .zero-bytes .result in
+    let l : z < 8 = omega (arith, c .zero-bytes .ensures, low-zeros-lt 8 (d + c .before .args .last) (omega arith) (omega arith)) in
+    ap (λ (x : ℕ). d + (3472328296227680304 - x)) (blanks-mask z l ∙ ap (λ (n : ℕ). wordOf (replicate n 16)) (c .zero-bytes .ensures))
 
 pub blanked-spec : {M : Type 1} → statement M
 blanked-spec =
-    tie.close (tie.spec (λ c. search needs) (λ c κs. search needs) mul-zeros shl-result sub-result sub-result-2 add-result returns)
+    tie.close (tie.spec (λ c. search needs) (λ c κs. search needs) mul-bits shl-result sub-result sub-result-2 add-result returns)

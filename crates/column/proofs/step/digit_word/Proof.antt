@@ -1,7 +1,9 @@
 -- `column::step::digit_word` meets its contract: hundreds and tens are found in each field as in a number by itself, and no sum reaches past its field.
+use Prim.Native.Nat.{_*_, _/_}
 use native.Mathlib.Omega.{arith}
+use lib.Bits.{and-le-r}
 use borrow.Author.Needs.{needs}
-use Rattle.column.proofs.DigitWordLaws.{hundreds-are, pairs-are, tens-are, digits-are}
+use Rattle.column.proofs.DigitWordLaws.{pairsOf, tensOf, hundreds-are, pairs-are, pairs-bound, tens-are, parts-fit, digits-are}
 use Rattle.column.proofs.step.digit_word.Statement.{statement}
 use Rattle.column.proofs.step.digit_word.Tie as tie
 
@@ -14,14 +16,23 @@ sub-pairs c = omega (arith, hundreds-are (c .args .a) (c .args .b) (c .pre .0) (
 mul-tens : tie.Need-mul-tens
 mul-tens c = omega (arith, pairs-are (c .args .a) (c .args .b) (c .pre .0) (c .pre .1))
 
+sub-ones : tie.Need-sub-ones
+sub-ones c = omega (arith, pairs-are (c .args .a) (c .args .b) (c .pre .0) (c .pre .1), tens-are (c .args .a) (c .args .b) (c .pre .0) (c .pre .1))
+
+mul-ones : tie.Need-mul-ones
+mul-ones c = omega (arith, and-le-r (pairsOf (c .args .a) (c .args .b) * 103 / 1024) 4222189076152335)
+
 mul-result : tie.Need-mul-result
-mul-result c = omega (arith, pairs-are (c .args .a) (c .args .b) (c .pre .0) (c .pre .1))
+mul-result c =
+    let a = c .args .a in
+    let b = c .args .b in
+    omega (arith, parts-fit (pairsOf a b) (tensOf a b) (pairs-bound a b (c .pre .0) (c .pre .1)) (and-le-r (pairsOf a b * 103 / 1024) 4222189076152335) .0)
 
-mul-result-2 : tie.Need-mul-result-2
-mul-result-2 c = omega (arith, tens-are (c .args .a) (c .args .b) (c .pre .0) (c .pre .1))
-
-sub-result : tie.Need-sub-result
-sub-result c = omega (arith, pairs-are (c .args .a) (c .args .b) (c .pre .0) (c .pre .1), tens-are (c .args .a) (c .args .b) (c .pre .0) (c .pre .1))
+add-result : tie.Need-add-result
+add-result c =
+    let a = c .args .a in
+    let b = c .args .b in
+    omega (arith, parts-fit (pairsOf a b) (tensOf a b) (pairs-bound a b (c .pre .0) (c .pre .1)) (and-le-r (pairsOf a b * 103 / 1024) 4222189076152335) .1)
 
 returns : tie.Need-returns
 returns c = digits-are (c .args .a) (c .args .b) (c .pre .0) (c .pre .1)
@@ -37,7 +48,8 @@ digit-word-spec =
     mul-pairs-2
     sub-pairs
     mul-tens
+    mul-ones
+    sub-ones
     mul-result
-    mul-result-2
-    sub-result
+    add-result
     returns)

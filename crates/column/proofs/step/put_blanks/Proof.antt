@@ -1,4 +1,4 @@
--- `column::step::fill` meets its contract: the blanks yet to be written, then what stands in `out` from `i` on.
+-- `column::step::put_blanks` meets its contract: the blanks yet to be written, then what stands in `out` from `i` on.
 use mathlib.Core.Path.{_≡_, sym, ap, _∙_}
 use mathlib.Core.List.{_++_}
 use Prim.Native.Nat.{ℕ, suc, _≤_, _<_, _-_}
@@ -6,8 +6,8 @@ use native.Mathlib.Omega.{arith}
 use lib.ListN.{length, drop, replicate, length-set}
 use borrow.Author.Needs.{needs}
 use Rattle.column.proofs.WritingLaws.{blank-next}
-use Rattle.column.proofs.step.fill.Statement.{statement}
-use Rattle.column.proofs.step.fill.Tie as tie
+use Rattle.column.proofs.step.put_blanks.Statement.{statement}
+use Rattle.column.proofs.step.put_blanks.Tie as tie
 
 abbrev Inv-loop : tie.InvT-loop
 Inv-loop out₀ n i₀ out i = (i ≤ length out) × (length out ≡ length out₀) × (replicate n 32 ++ drop n out₀ ≡ replicate i 32 ++ drop i out)
@@ -34,8 +34,8 @@ returns c =
     let z : l .loop .i ≡ 0 = omega arith in
     sym (l .loop .inv .2 ∙ ap (λ (k : ℕ). replicate k 32 ++ drop k (l .loop .out)) z)
 
-pub fill-spec : {M : Type 1} → statement M
-fill-spec =
+pub put-blanks-spec : {M : Type 1} → statement M
+put-blanks-spec =
     tie.close
     (tie.spec
     Inv-loop

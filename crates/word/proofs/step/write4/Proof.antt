@@ -1,4 +1,4 @@
--- `word::step::put_four` meets its contract: four stores, one behind the other.
+-- `word::step::write4` meets its contract: four stores, one behind the other.
 use mathlib.Core.Path.{_≡_, ap, _∙_}
 use mathlib.Core.List.{[], _∷_}
 use Prim.Native.Nat.{_/_, _%_}
@@ -8,8 +8,8 @@ use borrow.Author.Needs.{needs}
 use Rattle.array.specs.Place.{placed}
 use Rattle.word.specs.Word.{bytesOf}
 use Rattle.word.proofs.WordLaws.{stored4}
-use Rattle.word.proofs.step.put_four.Statement.{statement}
-use Rattle.word.proofs.step.put_four.Tie as tie
+use Rattle.word.proofs.step.write4.Statement.{statement}
+use Rattle.word.proofs.step.write4.Tie as tie
 
 slice-write-out-2 : tie.Need-slice-write-out-2
 slice-write-out-2 c = simp length-set (search needs)
@@ -31,8 +31,8 @@ returns c =
     let e : w % 256 ∷ w / 256 % 256 ∷ w / 65536 % 256 ∷ w / 16777216 % 256 ∷ [] ≡ bytesOf 4 w = rw (x, y) in
     stored4 s (a .i) (w % 256) (w / 256 % 256) (w / 65536 % 256) (w / 16777216 % 256) (search needs) ∙ ap (placed s (a .i)) e
 
-pub put-four-spec : {M : Type 1} → statement M
-put-four-spec =
+pub write4-spec : {M : Type 1} → statement M
+write4-spec =
     tie.close
     (tie.spec
     (λ c. search needs)

@@ -12,11 +12,11 @@ use mir.Syntax.{w64}
 use mir.Val.{Fits}
 use borrow.Author.Tests.{eqb-true}
 use Rattle.array.proofs.TestLaws.{split}
-use Rattle.word.specs.Word.{wordOf, lowZeros}
+use Rattle.word.specs.Word.{wordOf, lowRun}
 
 -- a byte of a number above zero is not zero
-pub low-zeros-lt : (m x : ℕ) → 0 < x → x < 256 ^ m → lowZeros m x < m
-unfolding lowZeros
+pub low-zeros-lt : (m x : ℕ) → 0 < x → x < 256 ^ m → lowRun 0 m x < m
+unfolding lowRun
 low-zeros-lt zero x p l = absurd (omega arith)
 low-zeros-lt (suc m) x p l =
     split (eqb (x % 256) 0)
