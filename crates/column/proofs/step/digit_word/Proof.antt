@@ -26,13 +26,16 @@ mul-result : tie.Need-mul-result
 mul-result c =
     let a = c .args .a in
     let b = c .args .b in
-    omega (arith, parts-fit (pairsOf a b) (tensOf a b) (pairs-bound a b (c .pre .0) (c .pre .1)) (and-le-r (pairsOf a b * 103 / 1024) 4222189076152335) .0)
+    let t = and-le-r (pairsOf a b * 103 / 1024) 4222189076152335 in
+    omega (arith, t, parts-fit (pairsOf a b) (tensOf a b) (pairs-bound a b (c .pre .0) (c .pre .1)) t .0)
 
 add-result : tie.Need-add-result
 add-result c =
     let a = c .args .a in
     let b = c .args .b in
-    omega (arith, parts-fit (pairsOf a b) (tensOf a b) (pairs-bound a b (c .pre .0) (c .pre .1)) (and-le-r (pairsOf a b * 103 / 1024) 4222189076152335) .1)
+    let t = and-le-r (pairsOf a b * 103 / 1024) 4222189076152335 in
+    let p = pairs-bound a b (c .pre .0) (c .pre .1) in
+    omega (arith, t, p, parts-fit (pairsOf a b) (tensOf a b) p t .1)
 
 returns : tie.Need-returns
 returns c = digits-are (c .args .a) (c .args .b) (c .pre .0) (c .pre .1)
