@@ -15,13 +15,16 @@ use Rattle.array.proofs.TestLaws.{split}
 use Rattle.word.specs.Word.{wordOf, lowRun}
 
 -- a byte of a number above zero is not zero
-pub low-zeros-lt : (m x : ℕ) → 0 < x → x < 256 ^ m → lowRun 0 m x < m
+low-zeros-lt : (m x : ℕ) → 0 < x → x < 256 ^ m → lowRun 0 m x < m
 unfolding lowRun
 low-zeros-lt zero x p l = absurd (omega arith)
 low-zeros-lt (suc m) x p l =
     split (eqb (x % 256) 0)
     (λ t. let e = eqb-true (x % 256) 0 t in rw t (omega (arith, low-zeros-lt m (x / 256) (omega arith) (omega (arith, pow-suc 256 m)))))
     (λ t. rw t (omega arith))
+
+pub zeros-lt : (x y : ℕ) → x < 2 ^ 60 → 0 < y → y < 2 ^ 60 → lowRun 0 8 (x + y) < 8
+zeros-lt x y l p h = low-zeros-lt 8 (x + y) (omega arith) (omega arith)
 
 -- 16 in each of the z lowest bytes
 sixteens : (z r : ℕ) → wordOf (replicate (z + r) 16) % 2 ^ (8 * z) ≡ wordOf (replicate z 16)

@@ -1,6 +1,6 @@
 -- Eight digits in one word: the test that each byte is a digit, and neighbours joined to the number.
 use mathlib.Core.Path.{_≡_, refl, ap, _∙_}
-use mathlib.Core.Bool.{true, false, not, cond, _&&_}
+use mathlib.Core.Bool.{Bool, true, false, not, cond, _&&_}
 use mathlib.Core.Option.{none, some}
 use mathlib.Core.List.{List}
 use Prim.Native.Nat.{ℕ, zero, suc, _+_, _-_, _*_, _/_, _%_, _^_, _≤_, _<_}
@@ -37,6 +37,13 @@ and-high b l =
     ∙ and-block 7 (b / 128) 1 (b % 128) 0 (omega arith) (omega arith)
     ∙ rw (and-zero-r (b % 128), and-mask (b / 128) 1) (omega arith)
 
+-- 118 more in each byte
+and-more : (x s m : ℕ) → x % 256 < 138 → bitAnd (x + (118 + 256 * s)) (128 + 256 * m) ≡ bitAnd (x % 256 + 118) 128 + 256 * bitAnd (x / 256 + s) m
+and-more x s m l =
+    let low : (x + (118 + 256 * s)) % 256 ≡ x % 256 + 118 = omega (arith, l) in
+    let high : (x + (118 + 256 * s)) / 256 ≡ x / 256 + s = omega (arith, l) in
+    and-low (x + (118 + 256 * s)) 128 m (omega arith) ∙ rw (low, high)
+
 -- the test of the code says that each byte is at most 9
 test-below : (m x : ℕ) → x < 256 ^ m → bitAnd x (wordOf (replicate m 128)) ≡ 0 → bitAnd (x + wordOf (replicate m 118)) (wordOf (replicate m 128)) ≡ 0 → Below 10 m x
 unfolding Below wordOf
@@ -44,12 +51,9 @@ test-below zero x l e f = omega arith
 test-below (suc m) x l e f =
     let a = and-low x 128 (wordOf (replicate m 128)) (omega arith) in
     let h = and-high (x % 256) (omega arith) in
-    let s : (x + (118 + 256 * wordOf (replicate m 118))) % 256 ≡ x % 256 + 118 = omega (arith, a, h, e) in
-    let r : (x + (118 + 256 * wordOf (replicate m 118))) / 256 ≡ x / 256 + wordOf (replicate m 118) = omega (arith, a, h, e) in
-    let b = and-low (x + (118 + 256 * wordOf (replicate m 118))) 128 (wordOf (replicate m 128)) (omega arith) in
+    let b = and-more x (wordOf (replicate m 118)) (wordOf (replicate m 128)) (omega (arith, a, h, e)) in
     let g = and-high (x % 256 + 118) (omega (arith, a, h, e)) in
-    let b₂ : bitAnd (x + (118 + 256 * wordOf (replicate m 118))) (128 + 256 * wordOf (replicate m 128)) ≡ bitAnd (x % 256 + 118) 128 + 256 * bitAnd (x / 256 + wordOf (replicate m 118)) (wordOf (replicate m 128)) = b ∙ rw (s, r) in
-    (omega (arith, b₂, g, f), test-below m (x / 256) (omega (arith, l, pow-suc 256 m)) (omega (arith, a, e)) (omega (arith, b₂, f)))
+    (omega (arith, b, g, f), test-below m (x / 256) (omega (arith, l, pow-suc 256 m)) (omega (arith, a, e)) (omega (arith, b, f)))
 
 -- and of such bytes it holds
 below-test : (m x : ℕ) → Below 10 m x → (bitAnd x (wordOf (replicate m 128)) ≡ 0) × (bitAnd (x + wordOf (replicate m 118)) (wordOf (replicate m 128)) ≡ 0)
@@ -59,12 +63,9 @@ below-test (suc m) x h =
     let n = below-test m (x / 256) (h .1) in
     let a = and-low x 128 (wordOf (replicate m 128)) (omega arith) in
     let p = and-high (x % 256) (omega arith) in
-    let s : (x + (118 + 256 * wordOf (replicate m 118))) % 256 ≡ x % 256 + 118 = omega (arith, h .0) in
-    let r : (x + (118 + 256 * wordOf (replicate m 118))) / 256 ≡ x / 256 + wordOf (replicate m 118) = omega (arith, h .0) in
-    let b = and-low (x + (118 + 256 * wordOf (replicate m 118))) 128 (wordOf (replicate m 128)) (omega arith) in
+    let b = and-more x (wordOf (replicate m 118)) (wordOf (replicate m 128)) (omega (arith, h .0)) in
     let g = and-high (x % 256 + 118) (omega (arith, h .0)) in
-    let b₂ : bitAnd (x + (118 + 256 * wordOf (replicate m 118))) (128 + 256 * wordOf (replicate m 128)) ≡ bitAnd (x % 256 + 118) 128 + 256 * bitAnd (x / 256 + wordOf (replicate m 118)) (wordOf (replicate m 128)) = b ∙ rw (s, r) in
-    (omega (arith, a, p, n .0, h .0), omega (arith, b₂, g, n .1, h .0))
+    (omega (arith, a, p, n .0, h .0), omega (arith, b, g, n .1, h .0))
 
 below-bound : (m x : ℕ) → Below 10 m x → x ≤ wordOf (replicate m 9)
 unfolding Below wordOf
@@ -232,6 +233,10 @@ are-of-test m d i a k l =
 test-of-are : (m : ℕ) (d : List ℕ) (i : ℕ) → AreDigits m d i → allBelow (λ k. isDigit (getD d (i + k) 0)) m ≡ true
 test-of-are m d i f = allBelow-all (λ k. isDigit (getD d (i + k) 0)) m (λ k l. and-both (le-leb 48 (getD d (i + k) 0) (f k l .0)) (le-leb (getD d (i + k) 0) 57 (f k l .1)))
 
+-- the test: the high bits of x, and of x with 118 more in each byte
+abbrev pub passed : ℕ → ℕ → Bool
+passed x y = eqb (bitAnd x 9259542123273814144) 0 && eqb (bitAnd y 9259542123273814144) 0
+
 module _
     (d : List ℕ) (i x y : ℕ)
     (bytes : (k : ℕ) → getD d k 0 < 256)
@@ -261,29 +266,29 @@ module _
       (t .0, rw z (t .1))
 
   -- what the code's test says
-  pub eight-test : not (eqb (bitAnd x 9259542123273814144) 0 && eqb (bitAnd y 9259542123273814144) 0) ≡ false → AreDigits 8 d i × (x ≡ digitsAt 8 d i)
+  pub eight-test : not (passed x y) ≡ false → AreDigits 8 d i × (x ≡ digitsAt 8 d i)
   eight-test t =
       let a = eqb (bitAnd x 9259542123273814144) 0 in
       let b = eqb (bitAnd y 9259542123273814144) 0 in
       let h = not-false (a && b) t in
       eight-yes (eqb-true (bitAnd x 9259542123273814144) 0 (and-left a b h)) (eqb-true (bitAnd y 9259542123273814144) 0 (and-right a b h))
 
-  pub eight-bound : not (eqb (bitAnd x 9259542123273814144) 0 && eqb (bitAnd y 9259542123273814144) 0) ≡ false → x ≤ 651061555542690057
+  pub eight-bound : not (passed x y) ≡ false → x ≤ 651061555542690057
   unfolding wordOf
   eight-bound t =
       let h = eight-test t in
       omega (arith, h .1, below-bound 8 (digitsAt 8 d i) (digits-below 8 d i (h .0)))
 
   -- what the code answers
-  pub eight-none : not (eqb (bitAnd x 9259542123273814144) 0 && eqb (bitAnd y 9259542123273814144) 0) ≡ true → allBelow (λ k. isDigit (getD d (i + k) 0)) 8 ≡ false
+  pub eight-none : not (passed x y) ≡ true → allBelow (λ k. isDigit (getD d (i + k) 0)) 8 ≡ false
   eight-none t =
-      let q = not-true (eqb (bitAnd x 9259542123273814144) 0 && eqb (bitAnd y 9259542123273814144) 0) t in
+      let q = not-true (passed x y) t in
       split (allBelow (λ k. isDigit (getD d (i + k) 0)) 8)
       (λ a. let n = eight-no (are-of-test 8 d i a) in absurd (clash (and-both (eq-eqb (bitAnd x 9259542123273814144) 0 (n .0)) (eq-eqb (bitAnd y 9259542123273814144) 0 (n .1))) q))
       (λ a. a)
 
   pub eight-some :
-      not (eqb (bitAnd x 9259542123273814144) 0 && eqb (bitAnd y 9259542123273814144) 0) ≡ false →
+      not (passed x y) ≡ false →
       (p q : ℕ) →
       p ≡ bitAnd (x * 10 + x / 256) 71777214294589695 →
       q ≡ bitAnd (p * 100 + p / 65536) 281470681808895 →

@@ -30,7 +30,7 @@ pub fn numeral(d: &[u8]) -> Number
         let Number::Value(e) = step::eight(d, i) else {
             return Number::Malformed;
         };
-        // The first eight begin with a zero.
+        // Below 10^7, the first eight begin with a zero.
         if (i == 0) & (e < 10000000) {
             return Number::Malformed;
         }

@@ -54,8 +54,8 @@ pub fn few(d: &[u8]) -> Number
     Number::Value(v)
 }
 
-// The number that the eight bytes from i on are, if all are digits. They are tested at once, then joined: two digits to a pair, two pairs to four digits,
-// two fours to the number, each in the place of the first; the mask drops what was joined across.
+// The number that the eight bytes from i on are, if all are digits. They are tested at once, then joined, always two neighbours in the place of the first: digits to pairs, pairs to
+// fours, fours to the number. A mask drops what was joined across.
 pub fn eight(d: &[u8], i: usize) -> Number
     requires { ⌜ i + 8 ≤ length (now d) ⌝ }
     ensures { λ r. ⌜ shown r ≡ cond (allBelow (λ k. isDigit (getD (now (d .entry)) (i + k) 0)) 8) (some (decimalFrom (now (d .entry)) i 8)) none ⌝ }
