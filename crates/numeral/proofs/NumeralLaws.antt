@@ -11,7 +11,7 @@ use lib.ListN.{length, getD}
 use lib.Dec.{leb, ltb, eqb, lit<}
 use borrow.Author.Tests.{eq-eqb, ne-eqb, le-leb, lt-leb, lt-ltb, le-ltb, eqb-true, eqb-false, leb-true, leb-false, ltb-true, ltb-false}
 use Rattle.array.specs.Index.{allBelow}
-use Rattle.array.proofs.TestLaws.{split, clash, and-left, and-right, and-false-right}
+use Rattle.array.proofs.TestLaws.{split, clash, and-left, and-right}
 use Rattle.array.proofs.IndexLaws.{allBelow-more, allBelow-fails}
 use Rattle.numeral.specs.Numeral.{isDigit, decimal, isNumeral, numeralOf}
 use Rattle.numeral.specs.Part.{decimalFrom}

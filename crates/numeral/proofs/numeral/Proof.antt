@@ -4,14 +4,11 @@ use mathlib.Core.Bool.{true}
 use Prim.Native.Nat.{_≤_, _+_, _-_, _*_, _^_, _<_}
 use native.Mathlib.Omega.{arith}
 use mathlib.Core.Logic.{⊎-elim}
-use lib.Dec.{ltb, eqb}
 use lib.ListN.{length, getD}
 use borrow.Author.Needs.{needs}
-use borrow.Author.Tests.{eqb-true, ltb-true, ltb-false}
 use Rattle.array.specs.Index.{allBelow}
-use Rattle.array.proofs.TestLaws.{split, and-left, and-right}
 use Rattle.numeral.specs.Numeral.{isDigit, decimal}
-use Rattle.numeral.proofs.NumeralLaws.{digit-yes, digit-no, decimal-more, digits-more, numeral-too-long, numeral-zeros, numeral-other, numeral-large, numeral-whole, power-more, power-below}
+use Rattle.numeral.proofs.NumeralLaws.{digit-yes, digit-no, decimal-more, digits-more, numeral-too-long, numeral-other, numeral-large, numeral-whole, power-more, power-below}
 use Rattle.numeral.proofs.PartLaws.{part-value, part-malformed, digits-join, part-bound, power-eight, decimal-eight, eight-zeros, eight-first}
 use Rattle.numeral.proofs.numeral.Statement.{statement}
 use Rattle.numeral.proofs.numeral.Tie as tie
