@@ -70,6 +70,8 @@ pub struct Totals {
     /// Frames of boards, and those in which the agreements of good nodes differ.
     pub boards: u64,
     pub differing: u64,
+    /// Frames of one node that is bad, of two with one bad, and of two that are good and apart.
+    pub small: [u64; 3],
 }
 
 /// The report of a difference.
@@ -130,6 +132,16 @@ impl Both<'_> {
         let numbers = (!numbers.is_empty()).then(|| numbers.to_string());
         let lines = std::iter::once(call).chain(numbers).chain(lent);
         Err(report.into_iter().chain(lines).collect::<Vec<_>>().join("\n") + "\n")
+    }
+
+    /// Counts a frame of one or two nodes.
+    fn count_small(&mut self, nodes: usize, mask: u64, agreement: usize) {
+        match (nodes, mask, agreement) {
+            (1, 1, _) => self.totals.small[0] += 1,
+            (2, 1 | 2, _) => self.totals.small[1] += 1,
+            (2, 0, 0) => self.totals.small[2] += 1,
+            _ => {}
+        }
     }
 
     pub fn version(&mut self) -> Compared<u64> {
@@ -383,8 +395,11 @@ impl Both<'_> {
             &mut o.after,
             &mut a.after[0],
         );
-        let mask = format!("mask {mask}");
+        let (bad, mask) = (mask, format!("mask {mask}"));
         self.settle("system_frame", &mask, got, expected, &[&p, &n, &c, &g, &s, &f, &o, &a])?;
+        if let (0, Some(plan)) = (expected, &plan.plan) {
+            self.count_small(plan.nodes, bad, a.after[0]);
+        }
         *rows = Rows { counters: n.after, cells: c.after, good: g.after };
         *setpoints = o.after;
         *agreement = a.after[0];

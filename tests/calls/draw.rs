@@ -66,8 +66,10 @@ fn damage(r: &Random, plan: &Plan, words: &mut Vec<u64>) {
         }
         2 => {
             let count = r.below(COUNTS);
-            let limits = [2, 8, 0, 17, 33, 9, 64, 65];
-            words[count] = r.pick(&[other_number(r, words[count]), r.pick(&limits)]);
+            // Just past the limits of this count, or of any.
+            let past = [[0, 8], [0, 17], [0, 33], [0, 17], [0, 9], [65, 65]][count];
+            let any = [1, 2, 8, 0, 17, 33, 9, 64, 65];
+            words[count] = r.pick(&[other_number(r, words[count]), r.pick(&past), r.pick(&any)]);
         }
         3 => words[COUNTS + r.below(CELLS)] = strange(r),
         4 => {

@@ -87,6 +87,7 @@ fn sum(all: &mut Totals, part: &Totals) {
     all.recovered += part.recovered;
     all.boards += part.boards;
     all.differing += part.differing;
+    all.small.iter_mut().zip(part.small).for_each(|(all, part)| *all += part);
     for (all, part) in all.answers.iter_mut().flatten().zip(part.answers.iter().flatten()) {
         *all += part;
     }
@@ -95,7 +96,7 @@ fn sum(all: &mut Totals, part: &Totals) {
 /// Prints how often each call gave each answer; false if one of its answers never came up.
 fn print(totals: &Totals) -> bool {
     let mut complete = totals.inside > 0 && totals.outside > 0 && totals.recovered > 0;
-    complete &= totals.differing > 0;
+    complete &= totals.differing > 0 && totals.small.iter().all(|&frames| frames > 0);
     print!("{:<16}{:>8}", "call", "calls");
     (0..10).for_each(|number| print!("{number:>8}"));
     println!();
@@ -123,6 +124,8 @@ fn print(totals: &Totals) -> bool {
         "frames of boards {}, with agreements that differ by node {}",
         totals.boards, totals.differing
     );
+    let [one, two, apart] = totals.small;
+    println!("frames of one node that is bad {one}; of two, one bad {two}, good and apart {apart}");
     complete
 }
 

@@ -1,4 +1,4 @@
-// Plan texts with the refusal that document 01 (cams: request 2026-01) gives each, worked out by hand: number, line, text, why.
+// Plan texts with the refusal that document 01 (cams: request 2026-01, one and two nodes: 2026-04) gives each, worked out by hand: number, line, text, why.
 // Written with `rustc -O cases.rs && ./cases DIR`, it makes DIR/data/texts and DIR/stdout of the program crates/plan_text_cases.
 // A text in data/texts stands after its length in eight digits and a line feed.
 // The program also writes each accepted plan back: 0 and 0 says that the bytes were those of the text.
@@ -87,6 +87,12 @@ fn without(mut rows: Vec<Row>, at: usize) -> Vec<Row> {
     rows
 }
 
+// The plan with another number of nodes.
+fn nodes(n: u64, mut rows: Vec<Row>) -> Vec<Row> {
+    rows[0][1] = n;
+    rows
+}
+
 // A byte of a line, from 0.
 fn byte(mut t: Vec<u8>, line: usize, at: usize, b: u8) -> Vec<u8> {
     t[57 * line + at] = b;
@@ -120,6 +126,19 @@ fn cases() -> Vec<(u32, u32, Vec<u8>, &'static str)> {
     say(0, 0, text(&cutter()), "a cam");
     say(0, 0, text(&with(k(), 4, [16, 1, 1, 0, 0, 0])), "K with a cam for its Sum");
     say(0, 0, text(&and(k(), 5, [16, 1, 0, 1, 0, 0])), "a cam of the last cell");
+    // accepted: one and two nodes, whatever the plan is
+    for n in [1, 2] {
+        say(0, 0, text(&nodes(n, k())), "K of one or two nodes");
+        say(0, 0, text(&nodes(n, with(k(), 5, [20, 0, 1, 0, 0, 0]))), "the same, voting cell 1 in frame 0");
+        say(0, 0, text(&nodes(n, all())), "every kind");
+        say(0, 0, text(&nodes(n, cutter())), "a cam");
+        say(0, 0, text(&[[0, n, 1, 1, 1, 1], [1, 0, 0, 0, 0, 0], [10, 0, 0, 0, 0, 0], [30, 0, 0, 0, 0, 0]]), "a Take and no vote: one or two nodes, and one of all else");
+        say(0, 0, text(&[[0, n, 1, 1, 1, 1], [1, 0, 0, 0, u64::MAX, 0], [20, 0, 0, 0, 0, 0], [30, 0, 0, 0, 0, 0]]), "a vote and no task");
+    }
+    say(0, 0, text(&nodes(1, longest())), "617 lines and one node");
+    for n in 4..8 {
+        say(0, 0, text(&nodes(n, k())), "K of so many nodes");
+    }
     // 1: the length
     say(1, 0, vec![], "length 0");
     say(1, 0, text(&k())[..398].to_vec(), "no multiple of 57");
@@ -183,8 +202,19 @@ fn cases() -> Vec<(u32, u32, Vec<u8>, &'static str)> {
     // 3: the first line
     say(3, 1, text(&with(k(), 0, [1, 0, 0, 0, 0, 0])), "a cell line first");
     say(3, 1, text(&with(k(), 0, [99, 3, 2, 2, 1, 1])), "an unknown kind first");
-    say(3, 1, text(&with(k(), 0, [0, 2, 2, 2, 1, 1])), "two nodes");
+    say(3, 1, text(&with(k(), 0, [0, 0, 2, 2, 1, 1])), "no node");
     say(3, 1, text(&with(k(), 0, [0, 8, 2, 2, 1, 1])), "eight nodes");
+    say(3, 1, text(&with(k(), 0, [0, 10, 2, 2, 1, 1])), "ten nodes");
+    say(3, 1, text(&with(k(), 0, [0, 257, 2, 2, 1, 1])), "256 + 1 nodes");
+    say(3, 1, text(&with(k(), 0, [0, 258, 2, 2, 1, 1])), "256 + 2 nodes");
+    say(3, 1, text(&with(k(), 0, [99, 1, 2, 2, 1, 1])), "an unknown kind first, and one node");
+    say(3, 1, text(&with(k(), 0, [1, 2, 0, 0, 0, 0])), "a cell line first, its number two");
+    say(3, 1, text(&with(k(), 0, [0, 1, 0, 2, 1, 1])), "one node, no frame");
+    say(3, 1, text(&with(k(), 0, [0, 2, 2, 33, 1, 1])), "two nodes, 33 cells");
+    say(3, 1, text(&with(k(), 0, [0, 1, 2, 2, 17, 1])), "one node, 17 sensors");
+    say(3, 1, text(&with(k(), 0, [0, 2, 2, 2, 1, 9])), "two nodes, nine actuators");
+    say(3, 1, text(&with(nodes(0, k()), 3, [17, 0, 0, 0, 0, 0])), "no node, and an unknown kind in a later line");
+    say(3, 1, text(&nodes(0, without(k(), 5))), "no node, and no vote: 3 before 6");
     say(3, 1, text(&with(k(), 0, [0, 3, 0, 2, 1, 1])), "no frame");
     say(3, 1, text(&with(k(), 0, [0, 3, 17, 2, 1, 1])), "17 frames");
     say(3, 1, text(&with(k(), 0, [0, 3, 2, 0, 1, 1])), "no cell");
@@ -196,6 +226,9 @@ fn cases() -> Vec<(u32, u32, Vec<u8>, &'static str)> {
     say(3, 1, text(&with(k(), 0, [0, 3, 2, 2, 1, 9])), "nine actuators");
     // 4: order
     say(4, 2, text(&and(k(), 1, k()[0])), "a second header");
+    say(4, 2, text(&and(nodes(1, k()), 1, [0, 2, 2, 2, 1, 1])), "one node, and a second header with two");
+    say(4, 2, text(&nodes(1, k())[..1]), "one node: a header alone");
+    say(4, 7, text(&nodes(2, k())[..6]), "two nodes: the actuator is missing");
     say(4, 4, text(&with(k(), 3, [17, 0, 0, 0, 0, 0])), "kind 17");
     say(4, 5, text(&with(cutter(), 4, [17, 0, 1, 0, 0, 0])), "kind 17 with the columns of a cam");
     say(4, 5, text(&with(cutter(), 4, [272, 0, 1, 0, 0, 0])), "kind 16 + 256");
@@ -259,16 +292,26 @@ fn cases() -> Vec<(u32, u32, Vec<u8>, &'static str)> {
     say(5, 6, text(&with(k(), 5, [20, 1, 1, 0, 1, 0])), "a vote's fifth column");
     say(5, 7, text(&with(k(), 6, [30, 0, 2, 0, 0, 0])), "an actuator's cell out of range");
     say(5, 7, text(&with(k(), 6, [30, 0, 1, 1, 0, 0])), "an actuator's fourth column");
+    say(5, 4, text(&nodes(1, with(k(), 3, [10, 0, 2, 0, 0, 0]))), "one node: a target out of range");
+    say(5, 6, text(&nodes(2, with(k(), 5, [20, 2, 1, 0, 0, 0]))), "two nodes: a vote's frame out of range");
     // the earliest line, and the order within a line
     say(4, 4, byte(text(&with(k(), 3, [17, 0, 0, 0, 0, 0])), 5, 3, b'x'), "4 in line 4 comes before 2 in line 6");
     say(5, 2, text(&with(with(k(), 1, [1, 0, 1, 0, 0, 0]), 4, [99, 0, 0, 0, 0, 0])), "5 in line 2 comes before 4 in line 5");
     say(2, 4, byte(text(&with(k(), 3, [17, 9999, 0, 0, 0, 0])), 3, 56, b' '), "2 before 4 and 5 in one line");
     say(4, 5, text(&with(with(k(), 3, k()[4]), 4, [10, 0, 9999, 9999, 5, 5])), "4 before 5 in one line");
-    say(2, 1, byte(text(&with(k(), 0, [0, 2, 2, 2, 1, 1])), 0, 10, b'-'), "2 before 3 in line 1");
+    say(2, 1, byte(text(&with(k(), 0, [0, 8, 2, 2, 1, 1])), 0, 10, b'-'), "2 before 3 in line 1");
+    say(2, 1, byte(text(&with(k(), 0, [0, 0, 2, 2, 1, 1])), 0, 10, b'-'), "2 before 3 in line 1, with no node");
+    say(2, 1, column(text(&k()), 0, 4, "  01"), "one node as 01");
+    say(2, 1, column(text(&k()), 0, 4, "  -1"), "a node less than none");
+    say(2, 1, column(text(&k()), 0, 4, "    "), "no number of nodes");
     say(5, 4, text(&with(k(), 3, [10, 0, 2, 0, 0, 0])[..6]), "5 in a line before the missing actuator");
     // 6: no recovery period
     say(6, 0, text(&without(k(), 5)), "K without its vote");
     say(6, 0, text(&[[0, 3, 1, 1, 1, 1], [1, 0, 0, 0, 0, 0], [30, 0, 0, 0, 0, 0]]), "a cell that no task writes and no vote covers");
+    for n in [1, 2] {
+        say(6, 0, text(&nodes(n, without(k(), 5))), "K of one or two nodes without its vote");
+        say(6, 0, text(&[[0, n, 1, 1, 1, 1], [1, 0, 0, 0, 0, 0], [30, 0, 0, 0, 0, 0]]), "a cell that no task writes and no vote covers: more nodes or fewer are no help");
+    }
     say(0, 0, text(&[[0, 3, 1, 1, 1, 1], [1, 0, 0, 0, 0, 0], [10, 0, 0, 0, 0, 0], [30, 0, 0, 0, 0, 0]]), "a Take and no vote");
     say(6, 0, text(&[[0, 3, 1, 1, 1, 1], [1, 0, 0, 0, 0, 0], [16, 0, 0, 0, 0, 0], [30, 0, 0, 0, 0, 0]]), "a cam of its own target, and no vote");
     say(6, 0, text(&with(cutter(), 3, [16, 0, 0, 1, 0, 0])), "two cams, each of the other's target");

@@ -113,7 +113,7 @@ pub fn header(r: &Random, mut rows: Vec<Row>, way: usize) -> Vec<u8> {
 /// Another kind, or a header number at or just outside its limits, or one that is right in its
 /// low bits only.
 fn header_at(r: &Random, row: &mut Row, way: usize) {
-    const LIMITS: [[u64; 2]; 5] = [[3, 7], [1, 16], [1, 32], [1, 16], [1, 8]];
+    const LIMITS: [[u64; 2]; 5] = [[1, 7], [1, 16], [1, 32], [1, 16], [1, 8]];
     let column = way % 6;
     if column == 0 {
         row[0] = r.pick(&[1, 2, 10, 15, 16, 20, 30, 99, 256, 9999]);

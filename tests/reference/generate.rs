@@ -27,8 +27,9 @@ pub fn run_text(lines: &[Vec<u64>]) -> Vec<u8> {
 /// A header's numbers: nodes, frames, cells, sensors, actuators.
 pub type Sizes = [usize; 5];
 
+/// Each number of nodes comes as often.
 fn sizes(r: &Random) -> Sizes {
-    [r.size(3, 7), r.size(1, 16), r.size(1, 32), r.size(1, 16), r.size(1, 8)]
+    [r.between(1, 7), r.size(1, 16), r.size(1, 32), r.size(1, 16), r.size(1, 8)]
 }
 
 fn task(r: &Random, values: &Values, sizes: Sizes, kind: u64, place: [u64; 2]) -> Row {
@@ -178,7 +179,7 @@ pub fn slow(r: &Random, values: &Values) -> Vec<Row> {
 
 /// 617 lines: all sizes and counts at their upper limit.
 pub fn longest(r: &Random, values: &Values) -> Vec<Row> {
-    let sizes = [r.between(3, 7), 16, 32, 16, 8];
+    let sizes = [r.between(1, 7), 16, 32, 16, 8];
     let mut tasks = tasks(r, values, sizes);
     while tasks.len() < MOST_TASKS {
         let target = r.below(sizes[2]) as u64;
@@ -209,7 +210,8 @@ pub fn never(r: &Random, values: &Values) -> Vec<Row> {
 #[derive(Clone, Copy)]
 pub enum Masks {
     Quiet,
-    /// In each frame more than half of the nodes are good in it and in the R frames before it.
+    /// In each frame more than half of the nodes are good in it and in the R frames before it: of
+    /// one or two nodes all, in every frame.
     Premise,
     Any,
     Extreme,

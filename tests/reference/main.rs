@@ -1,5 +1,6 @@
 //! An independent reference for the voting frame controller, written from document 01 and requests
-//! 2026-01 and 2026-02 alone, with a generator of test cases and a comparer. See README.md.
+//! 2026-01, 2026-02 and 2026-04 alone, with a generator of test cases and a comparer. See
+//! README.md.
 
 #[allow(dead_code)]
 #[cfg(test)]

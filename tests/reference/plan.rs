@@ -100,11 +100,12 @@ struct Reader {
 }
 
 impl Reader {
-    /// "3: the first line isn't kind 0, or a header number is outside its limits."
+    /// "3: the first line isn't kind 0, or a header number is outside its limits." The nodes' are 1
+    /// to 7: "headers with 1 or 2 nodes were refused with 3 and are now accepted".
     fn header(row: Row) -> Option<Reader> {
         let [kind, nodes, frames, cells, sensors, actuators] = row;
         let within = kind == 0
-            && (3..=7).contains(&nodes)
+            && (1..=7).contains(&nodes)
             && (1..=16).contains(&frames)
             && (1..=32).contains(&cells)
             && (1..=16).contains(&sensors)

@@ -1,5 +1,5 @@
-//! Document 01's short table and plan K, cams, agreements and refusals worked out by hand, and the
-//! premise of demand 3.
+//! Document 01's short table and plan K, cams, agreements, presses of one and two nodes, and
+//! refusals worked out by hand, and the premise of demand 3.
 
 use std::collections::{BTreeMap, BTreeSet};
 
@@ -236,11 +236,17 @@ fn message(counter: u16, cells: [u64; 2]) -> [u8; 18] {
     bytes
 }
 
-/// The agreement of a vote with the node's own counter over bins of a counter and two cells.
-fn agreement(plan: &Plan, own: u16, bins: &[(u16, [u64; 2])]) -> usize {
+/// Counter, cells and agreement after a vote over bins of a counter and two cells, by a node with
+/// its own counter and the cells 70 and 90.
+fn voted(plan: &Plan, own: u16, bins: &[(u16, [u64; 2])]) -> (u16, [u64; 2], usize) {
     let mut memory = Memory { counter: own, cells: vec![70, 90] };
     let bins: Vec<_> = bins.iter().map(|&(counter, cells)| message(counter, cells)).collect();
-    memory.vote(plan, &bins.concat())
+    let agreement = memory.vote(plan, &bins.concat());
+    (memory.counter, [memory.cells[0], memory.cells[1]], agreement)
+}
+
+fn agreement(plan: &Plan, own: u16, bins: &[(u16, [u64; 2])]) -> usize {
+    voted(plan, own, bins).2
 }
 
 /// "How many bins hold it"; "the least such count over its counter and voted cells". Counter 0 is
@@ -407,6 +413,184 @@ fn agreement_where_good_nodes_take_other_counters() {
     assert_eq!(vote(9, 1, one), ([1, 1], 0));
 }
 
+/// "Headers with 1 or 2 nodes were refused with 3 and are now accepted."
+#[test]
+fn headers_of_one_and_two_nodes() {
+    let header = |nodes: u64| refused(&changed(&K, 1, &[(1, nodes)]));
+    assert_eq!([1, 2, 3, 7].map(header), [(0, 0); 4]);
+    assert_eq!([0, 8, 9, 257, 258, 9999].map(header), [(3, 1); 6]);
+    // R comes "from the plan only": the nodes make no difference to it.
+    for nodes in [1, 2] {
+        let rows = changed(&K, 1, &[(1, nodes)]);
+        assert_eq!(period(&rows), Some(3));
+        assert_eq!(refused(&without(&rows, 6)), (6, 0));
+        assert_eq!(period(&changed(&ONE_CELL, 1, &[(1, nodes)])), Some(2));
+        assert_eq!(refused(&changed(&rows, 1, &[(2, 0)])), (3, 1));
+        assert_eq!(refused(&without(&rows, 7)), (4, 7));
+        assert_eq!(refused(&changed(&rows, 4, &[(2, 2)])), (5, 4));
+    }
+    // n x (2 + 8C), n x ((n + 1) x (2 + 8C) + 8A).
+    let lengths = |nodes: u64| {
+        let plan = Some(k_of(nodes, false));
+        (calls::mailbox_size(plan.as_ref()), calls::faults_size(plan.as_ref()))
+    };
+    assert_eq!([1, 2, 3].map(lengths), [(18, 44), (36, 124), (54, 240)]);
+}
+
+/// More than half of one is one: the bin is taken, whatever it holds.
+#[test]
+fn a_vote_of_one_bin() {
+    let one = k_of(1, false);
+    assert_eq!(voted(&one, 0, &[(0, [5, 7])]), (0, [70, 7], 1));
+    assert_eq!(voted(&one, 1, &[(0, [5, NAN])]), (0, [70, NAN], 1));
+    // Counter 1 is after frame 0, in which K votes no cell.
+    assert_eq!(voted(&one, 0, &[(1, [5, 7])]), (1, [70, 90], 1));
+    // A counter >= F: the own one stays.
+    assert_eq!(voted(&one, 1, &[(5, [5, 7])]), (1, [70, 90], 1));
+    assert_eq!(voted(&one, 0, &[(5, [5, 7])]), (0, [70, 7], 1));
+}
+
+/// "More than half of two is two": with one, counter and cell stay as they are.
+#[test]
+fn a_vote_of_two_bins() {
+    let two = k_of(2, false);
+    assert_eq!(voted(&two, 1, &[(0, [5, 7]), (0, [6, 7])]), (0, [70, 7], 2));
+    assert_eq!(voted(&two, 0, &[(0, [5, NAN]), (0, [5, NAN])]), (0, [70, NAN], 2));
+    assert_eq!(voted(&two, 0, &[(1, [5, 7]), (1, [6, 8])]), (1, [70, 90], 2));
+    assert_eq!(voted(&two, 1, &[(5, [5, 7]), (5, [6, 8])]), (1, [70, 90], 2));
+    // The cells differ, the two zeros too.
+    assert_eq!(voted(&two, 1, &[(0, [5, 7]), (0, [5, 8])]), (0, [70, 90], 0));
+    assert_eq!(voted(&two, 0, &[(0, [5, 0]), (0, [5, MINUS])]), (0, [70, 90], 0));
+    assert_eq!(voted(&two, 0, &[(0, [5, 90]), (0, [5, 8])]), (0, [70, 90], 0));
+    // The counters differ: the own one stays, and the cells of the frame before it are voted.
+    let bins = [(0, [5, 7]), (1, [5, 7])];
+    assert_eq!(voted(&two, 0, &bins), (0, [70, 7], 0));
+    assert_eq!(voted(&two, 1, &bins), (1, [70, 90], 0));
+    assert_eq!(voted(&two, 9, &bins), (9, [70, 90], 0));
+    assert_eq!(voted(&k_of(2, true), 1, &bins), (1, [5, 90], 0));
+}
+
+/// "Of tied values, the one whose lowest-numbered holder is lowest": of two that differ node 0's.
+#[test]
+fn plane_of_one_and_two_nodes() {
+    assert_eq!([7, MINUS, NAN].map(|value| plane(&[value])), [7, MINUS, NAN]);
+    assert_eq!((plane(&[7, 8]), plane(&[8, 7]), plane(&[7, 7])), (7, 8, 7));
+    assert_eq!((plane(&[0, MINUS]), plane(&[MINUS, 0]), plane(&[NAN, 7])), (0, MINUS, NAN));
+}
+
+/// What a bad node of K does in a frame: its memory after it, the message it sends to all, its
+/// setpoint.
+type Fault = ((u16, [u64; 2]), (u16, [u64; 2]), u64);
+
+/// The plane's value, the number of working nodes and the agreement of a frame of K.
+fn faulty_frame(
+    plan: &Plan,
+    system: &mut System,
+    sensor: u64,
+    mask: u64,
+    fault: Fault,
+) -> (u64, usize, usize) {
+    let ((counter, cells), sent, setpoint) = fault;
+    let mut bytes = message(counter, cells).to_vec();
+    (0..plan.nodes).for_each(|_| bytes.extend_from_slice(&message(sent.0, sent.1)));
+    bytes.extend_from_slice(&u64::to_be_bytes(setpoint));
+    let (faults, mut place) = (bytes.repeat(plan.nodes), [0]);
+    let (working, agreement) = system.frame(plan, &[sensor], mask, &faults, &mut place);
+    (place[0], working, agreement)
+}
+
+/// The one node is bad: the plane hands on its setpoint, and "0 if all are bad".
+#[test]
+fn a_frame_of_one_bad_node() {
+    let plan = k_of(1, false);
+    let mut system = System::power_on(&plan);
+    let fault = ((9, [3, 8]), (1, [0, 0]), 6);
+    assert_eq!(faulty_frame(&plan, &mut system, 5, 1, fault), (6, 0, 0));
+    assert_eq!(system.memories, [Memory { counter: 9, cells: vec![3, 8] }]);
+    assert_eq!(system.counts, [0]);
+    // 9 mod 2 is 1: it runs the Sum, of the least values above 0, and hears itself.
+    assert_eq!(faulty_frame(&plan, &mut system, 5, 0, fault), (11, 0, 1));
+    assert_eq!(system.memories, [Memory { counter: 0, cells: vec![3, 11] }]);
+    assert_eq!(system.counts, [1]);
+}
+
+/// One of two nodes is bad in frame 1, after a good frame 0. The good one has counter 0, cells 1
+/// and 1 and sends cell 1; the bad one puts out 6.
+#[test]
+fn a_frame_of_two_nodes_with_a_bad_one() {
+    let plan = k_of(2, false);
+    let [one, two] = [1.0f64, 2.0].map(f64::to_bits);
+    let frame = |mask: u64, sent: (u16, [u64; 2]), setpoint: u64| {
+        let mut system = System::power_on(&plan);
+        let fault = ((9, [3, 8]), sent, setpoint);
+        assert_eq!(faulty_frame(&plan, &mut system, one, 0, fault), (0, 2, 2));
+        let given = faulty_frame(&plan, &mut system, one, mask, fault);
+        for node in 0..2 {
+            let (bad, left) = (mask >> node & 1 == 1, &system.memories[node]);
+            let [counter, first, second] = if bad { [9, 3, 8] } else { [0, one, one] };
+            assert_eq!((u64::from(left.counter), &left.cells[..]), (counter, &[first, second][..]));
+            assert_eq!(system.counts[node], if bad { 0 } else { 3 });
+        }
+        given
+    };
+    // Node 0 is bad: its value; no cell has more than half, and no counter.
+    assert_eq!(frame(1, (0, [0, two]), 6), (6, 1, 0));
+    assert_eq!(frame(1, (1, [0, one]), 6), (6, 1, 0));
+    // Node 1 is bad: node 0's own.
+    assert_eq!(frame(2, (0, [0, two]), 6), (one, 1, 0));
+    assert_eq!(frame(2, (1, [0, one]), 6), (one, 1, 0));
+    // Its bytes agree; the cell that is not voted may differ.
+    assert_eq!(frame(1, (0, [0, one]), 6), (6, 1, 2));
+    assert_eq!(frame(2, (0, [two, one]), 6), (one, 1, 2));
+    // Its setpoint is the right one, whatever it sends.
+    assert_eq!(frame(1, (9, [0, 0]), one), (one, 1, 0));
+    // Both are bad: node 0's, which is node 1's too here.
+    assert_eq!(frame(3, (0, [0, one]), 6), (6, 0, 0));
+}
+
+/// "What a .. system record holds past n nodes .. is neither read nor changed"; "9: mask >= 2^n, or
+/// a good count above R".
+#[test]
+fn calls_on_one_and_two_nodes() {
+    for nodes in [1, 2] {
+        let plan = k_of(nodes as u64, false);
+        let faults = vec![0; fault_length(&plan)];
+        let frame = |mask: u64, good: &mut [u16]| {
+            let (mut counters, mut cells) = ([0; 7], [0; 224]);
+            (counters[nodes], cells[32 * nodes]) = (9, 9);
+            let (mut place, mut agreement) = ([9], 9);
+            let answer = calls::system_frame(
+                Some(&plan),
+                &mut counters,
+                &mut cells,
+                good,
+                &[5],
+                mask,
+                &faults,
+                &mut place,
+                &mut agreement,
+            );
+            assert_eq!((counters[nodes], cells[32 * nodes]), (9, 9));
+            (answer, agreement)
+        };
+        let counts = |count: u16| {
+            let mut good = [9; 7];
+            good[..nodes].fill(count);
+            good
+        };
+        let (mut good, mut working) = (counts(3), 9);
+        let answer = calls::system_working(Some(&plan), &good, 0, &mut working);
+        assert_eq!((answer, working), (0, nodes));
+        assert_eq!(frame(0, &mut good), (0, nodes));
+        assert_eq!(frame(1 << nodes, &mut good), (9, 0));
+        assert_eq!(good, counts(3));
+        // All are bad, with zero bytes.
+        assert_eq!(frame((1 << nodes) - 1, &mut good), (0, 0));
+        assert_eq!(good, counts(0));
+        assert_eq!(frame(0, &mut counts(4)), (9, 0));
+    }
+}
+
 /// The fault bytes: "for each node its memory after the frame, its n messages by receiver, its A
 /// setpoints".
 #[test]
@@ -479,9 +663,9 @@ fn words_that_are_no_plan() {
     assert!(with(&[]) && with(&[(6, NAN), (7, u64::MAX)]));
     assert!(with(&[(423, 3)]) && with(&[(422, 2), (423, 0)]));
     assert!(!with(&[(423, 0)]), "no recovery period");
-    assert!(
-        !with(&[(0, 2)]) && !with(&[(0, 8)]) && !with(&[(3, 17)]) && !with(&[(4, 1 << 32 | 1)])
-    );
+    assert!(with(&[(0, 1)]) && with(&[(0, 2)]) && with(&[(0, 7)]), "other nodes");
+    assert!(!with(&[(0, 0)]) && !with(&[(0, 8)]) && !with(&[(0, 257)]) && !with(&[(0, MINUS | 2)]));
+    assert!(!with(&[(3, 17)]) && !with(&[(4, 1 << 32 | 1)]));
     assert!(!with(&[(8, 1)]), "an initial pattern past the cells");
     assert!(!with(&[(5, 1)]), "a task past the count");
     assert!(!with(&[(5, 3)]), "frames that fall");
@@ -550,10 +734,11 @@ fn agreement_beside_a_refusal() {
     assert_eq!(vote(Some(&plan), 32, 53), (8, 0));
 }
 
-fn k_run() -> Vec<u8> {
-    let masks = [0, 4, 0, 0, 0, 0];
+/// K's run, with this mask in frame 1: document 01 has 4.
+fn k_run(mask: u64) -> Vec<u8> {
+    let masks = [0, mask, 0, 0, 0, 0];
     let sensors = [1.0f64, 1.0, 2.0, 3.0, 3.0, 3.0];
-    let line = |(mask, sensor): (i32, f64)| format!("{mask:4} 255{:20}\n", sensor.to_bits());
+    let line = |(mask, sensor): (u64, f64)| format!("{mask:4} 255{:20}\n", sensor.to_bits());
     masks.into_iter().zip(sensors).map(line).collect::<String>().into_bytes()
 }
 
@@ -567,10 +752,13 @@ const K_LISTING: &str = "       0   3   3                   0   3
        5   3   3 4618441417868443648   3
 ";
 
+fn printed(plan: &[u8], run: &[u8]) -> String {
+    String::from_utf8(listing(plan, run).bytes).unwrap()
+}
+
 #[test]
 fn listing_of_k() {
-    let printed = |plan: &[u8], run: &[u8]| String::from_utf8(listing(plan, run).bytes).unwrap();
-    let (plan, run) = (plan_text(&K), k_run());
+    let (plan, run) = (plan_text(&K), k_run(4));
     assert_eq!(printed(&plan, &run), K_LISTING);
     let five_frames = K_LISTING[..5 * 41].to_owned();
     assert_eq!(printed(&plan, &run[..run.len() - 1]), five_frames + "  10       6\n");
@@ -598,6 +786,86 @@ fn agreement_of_a_listing() {
     assert_eq!(printed(12), line(2, 0, 0));
     assert_eq!(printed(14), line(1, u64::MAX, 3));
     assert_eq!(printed(15), line(0, u64::MAX, 0));
+}
+
+/// K of one node, which is bad in frame 1 with all bytes 255: the plane hands on its setpoint, and
+/// nothing agrees. From frame 2 on it hears itself only, its cell 1 is a NaN (NaN plus anything),
+/// and it is a frame apart, as 65,535 mod 2 is 1: it works again in frame 5 and never comes right.
+const ONE_LISTING: &str = "       0   1   1                   0   1
+       1   0   018446744073709551615   0
+       2   0   0 9221120237041090560   1
+       3   0   0 9221120237041090560   1
+       4   0   0 9221120237041090560   1
+       5   1   0 9221120237041090560   1
+";
+
+/// K of two nodes, node 1 bad in frame 1: where the setpoints differ, node 0's is handed on. The
+/// nodes stay a frame apart, as neither is more than half, and both work in frame 5.
+const TWO_LISTING: &str = "       0   2   2                   0   2
+       1   1   1 4607182418800017408   0
+       2   1   1 4607182418800017408   0
+       3   1   1 4613937818241073152   0
+       4   1   1 4613937818241073152   0
+       5   2   1 4618441417868443648   0
+";
+
+/// The same with node 0 bad: the tie goes to node 0 all the same, though node 1 is right.
+const TWO_LISTING_0: &str = "       0   2   2                   0   2
+       1   1   118446744073709551615   0
+       2   1   1 9221120237041090560   0
+       3   1   1 9221120237041090560   0
+       4   1   1 9221120237041090560   0
+       5   2   1 9221120237041090560   0
+";
+
+#[test]
+fn listings_of_k_of_one_and_two_nodes() {
+    let text = |nodes: u64| plan_text(&changed(&K, 1, &[(1, nodes)]));
+    assert_eq!(printed(&text(1), &k_run(1)), ONE_LISTING);
+    assert_eq!(printed(&text(2), &k_run(2)), TWO_LISTING);
+    assert_eq!(printed(&text(2), &k_run(1)), TWO_LISTING_0);
+    // "10: .. mask >= 2^n."
+    let first = |listing: &str| listing[..41].to_owned() + "  10       2\n";
+    assert_eq!(printed(&text(1), &k_run(2)), first(ONE_LISTING));
+    assert_eq!(printed(&text(1), &k_run(4)), first(ONE_LISTING));
+    assert_eq!(printed(&text(2), &k_run(4)), first(TWO_LISTING));
+    assert_eq!(printed(&text(0), &k_run(0)), "   3       1\n");
+}
+
+/// Working, equal, the setpoint and the agreement in each of five frames of a plan with F = 2, in
+/// each frame of which cell 0 is taken from the sensor, which is 5. Nothing is voted, and R is 2. A
+/// bad node's bytes are 0: after frame 0 its counter is wrong, after frame 1 it is right.
+fn takes(nodes: u64, masks: [u64; 5]) -> [[u64; 4]; 5] {
+    let take = |frame: u64| [10, frame, 0, 0, 0, 0];
+    let rows = with(&changed(&ONE_CELL, 1, &[(1, nodes), (2, 2)]), 4, take(1));
+    assert_eq!((rows[2], period(&rows)), (take(0), Some(2)));
+    let line = |mask: &u64| format!("{mask:4}   0                   5\n");
+    let run: String = masks.iter().map(line).collect();
+    let listing = printed(&plan_text(&rows), run.as_bytes());
+    let lines: Vec<_> = listing.lines().collect();
+    [0, 1, 2, 3, 4].map(|frame| {
+        let columns = lines[frame].split_whitespace().map(|column| column.parse().unwrap());
+        let columns: Vec<u64> = columns.collect();
+        assert_eq!((columns[0], columns.len()), (frame as u64, 5));
+        [columns[1], columns[2], columns[3], columns[4]]
+    })
+}
+
+/// A node that a fault leaves in another frame: of three, two bring it back; of two or one, none
+/// does, though its cells are right and it works again after R good frames.
+#[test]
+fn a_counter_left_in_another_frame() {
+    let back = [[2, 2, 5, 2], [2, 3, 5, 2], [2, 3, 5, 3], [3, 3, 5, 3], [3, 3, 5, 3]];
+    assert_eq!(takes(3, [4, 0, 0, 0, 0]), back);
+    let apart = [[1, 1, 5, 0], [1, 1, 5, 0], [1, 1, 5, 0], [2, 1, 5, 0], [2, 1, 5, 0]];
+    assert_eq!(takes(2, [2, 0, 0, 0, 0]), apart);
+    let alone = [[0, 0, 0, 0], [0, 0, 5, 1], [0, 0, 5, 1], [1, 0, 5, 1], [1, 0, 5, 1]];
+    assert_eq!(takes(1, [1, 0, 0, 0, 0]), alone);
+    // Left in the right frame it comes right by itself; of two, its zero bytes agree.
+    let two = [[2, 2, 5, 2], [1, 1, 5, 2], [1, 2, 5, 2], [1, 2, 5, 2], [2, 2, 5, 2]];
+    assert_eq!(takes(2, [0, 2, 0, 0, 0]), two);
+    let one = [[1, 1, 5, 1], [0, 0, 0, 0], [0, 1, 5, 1], [0, 1, 5, 1], [1, 1, 5, 1]];
+    assert_eq!(takes(1, [0, 1, 0, 0, 0]), one);
 }
 
 /// All nodes and the single controller run the cam.
@@ -788,6 +1056,101 @@ fn runs_have_cams_in_each_case() {
     }
     println!("{with_cams} of {runs} runs have cams; by case of their positions {seen:?}");
     assert!(2 * with_cams > runs && seen.len() == 11 && seen.values().all(|&runs| runs > 20));
+}
+
+/// What comes in a frame of one or two nodes, all fault bytes of which are `fill`.
+fn small_frame(
+    plan: &Plan,
+    system: &System,
+    mask: u64,
+    fill: u8,
+    equal: usize,
+    agreement: usize,
+) -> Vec<&'static str> {
+    let setpoint = |node: usize, actuator: usize| match mask >> node & 1 {
+        0 => system.memories[node].setpoint(plan, actuator),
+        _ => u64::from_be_bytes([fill; 8]),
+    };
+    let (one, two) = (plan.nodes == 1, plan.nodes == 2);
+    let one_bad = two && (mask == 1 || mask == 2);
+    let differ = |actuator: usize| setpoint(0, actuator) != setpoint(1, actuator);
+    let tie = one_bad && (0..plan.actuators).any(differ);
+    let all = [
+        ("one, bad", one && mask == 1),
+        ("one, good and not right", one && mask == 0 && equal == 0),
+        ("two, both bad", two && mask == 3),
+        ("two, a tie that goes to the bad one", tie && mask == 1),
+        ("two, a tie that goes to the good one", tie && mask == 2),
+        ("two, one bad that does not agree", one_bad && agreement == 0),
+        ("two, one bad that agrees", one_bad && agreement == 2),
+        ("two, good and apart", two && mask == 0 && agreement == 0),
+    ];
+    all.into_iter().filter(|(_, comes)| *comes).map(|(name, _)| name).collect()
+}
+
+/// The generated runs have each number of nodes, and on one and two what can come there.
+#[test]
+fn runs_have_one_and_two_nodes() {
+    let (mut runs, mut seen) = ([0; 8], BTreeMap::new());
+    let classes = ["within the premise", "outside the premise", "longest plan", "long run"];
+    for case in (0..4000).map(case).filter(|case| classes.contains(&case.class)) {
+        let plan = read(&case.plan.unwrap()).unwrap();
+        runs[plan.nodes] += 1;
+        if plan.nodes > 2 {
+            continue;
+        }
+        let (mut system, mut single) = (System::power_on(&plan), Memory::power_on(&plan));
+        let (mut place, mut here) = (vec![0; plan.actuators], BTreeSet::new());
+        for (mask, fill, sensors) in frames(&plan, case.run.unwrap()) {
+            let faults = vec![fill; fault_length(&plan)];
+            let (_, agreement) = system.frame(&plan, &sensors, mask, &faults, &mut place);
+            single.compute(&plan, &sensors);
+            let equal = system.memories.iter().filter(|&memory| *memory == single).count();
+            here.extend(small_frame(&plan, &system, mask, fill, equal, agreement));
+        }
+        here.into_iter().for_each(|case| *seen.entry(case).or_insert(0) += 1);
+    }
+    println!("runs by nodes {:?}; of one and two nodes {seen:?}", &runs[1..]);
+    assert!(runs[1..].iter().all(|&runs| runs > 100));
+    assert!(seen.len() == 8 && seen.values().all(|&runs| runs > 5));
+}
+
+/// Demand 3's premise, from the masks: in each frame more than half of the nodes are good in it and
+/// in the R frames before it, or in all before it if fewer.
+fn premise(plan: &Plan, masks: &[u64]) -> bool {
+    (0..masks.len()).all(|frame| {
+        let since = frame.saturating_sub(plan.period);
+        let works = |node: &usize| masks[since..=frame].iter().all(|mask| mask >> node & 1 == 0);
+        2 * (0..plan.nodes).filter(works).count() > plan.nodes
+    })
+}
+
+/// "On such a press a setpoint is vouched for only while both work": on one and two nodes the
+/// premise holds just where all masks are 0. All lists of up to five masks, of three nodes four.
+#[test]
+fn premise_of_one_and_two_nodes() {
+    for (nodes, length) in [(1, 5), (2, 5), (3, 4)] {
+        let plan = k_of(nodes, false);
+        let faults = vec![255; fault_length(&plan)];
+        let mut held_with_bad = 0;
+        for length in 1..=length {
+            for list in 0..1u64 << nodes * length {
+                let mask = |frame: u64| list >> nodes * frame & (1 << nodes) - 1;
+                let masks: Vec<_> = (0..length).map(mask).collect();
+                let held = premise(&plan, &masks);
+                let quiet = masks.iter().all(|&mask| mask == 0);
+                held_with_bad += usize::from(held && !quiet);
+                assert!(held || !quiet);
+                // The nodes that work by the good counts are those.
+                let mut system = System::power_on(&plan);
+                let mut more_than_half = |&mask: &u64| {
+                    2 * system.frame(&plan, &[1], mask, &faults, &mut [0]).0 > plan.nodes
+                };
+                assert_eq!(masks.iter().all(&mut more_than_half), held, "{masks:?}");
+            }
+        }
+        assert_eq!(held_with_bad > 0, nodes == 3);
+    }
 }
 
 /// Demand 3: within its premise the plane hands on the single controller's setpoints, and the

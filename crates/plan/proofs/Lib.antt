@@ -3,3 +3,4 @@ pub mod AcceptedLaws
 pub mod KnownLaws
 pub mod PeriodLaws
 pub mod EntryLaws
+pub mod EarlierLaws

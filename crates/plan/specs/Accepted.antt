@@ -13,7 +13,7 @@ use Rattle.plan.specs.declared.Plan.{Plan}
 use Rattle.plan.specs.Limits.{leastNodes, mostNodes, mostFrames, mostCells, mostSensors, mostActuators, mostTasks}
 use Rattle.plan.specs.Known.{taskAt, votedIn, reads, period}
 
--- ---- the header: "nodes n, 3–7; frames F, 1–16; cells C, 1–32; sensors S, 1–16; actuators A, 1–8", and "at most 64" tasks
+-- ---- the header: "nodes n, 3–7" (from 1 since request 2026-04) "; frames F, 1–16; cells C, 1–32; sensors S, 1–16; actuators A, 1–8", and "at most 64" tasks
 
 abbrev pub within : ℕ → ℕ → ℕ → Bool
 within low high x = leb low x && leb x high

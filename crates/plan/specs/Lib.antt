@@ -2,3 +2,4 @@ pub mod Limits
 pub mod Known
 pub mod Sizes
 pub mod Accepted
+pub mod Earlier

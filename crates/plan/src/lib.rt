@@ -40,7 +40,7 @@ pub struct Plan {
 }
 
 impl Plan {
-    pub const LEAST_NODES: usize = 3;
+    pub const LEAST_NODES: usize = 1;
 
     pub const NODES: usize = 7;
 

@@ -1,5 +1,6 @@
 pub mod LineLaws
 pub mod RefusedLaws
+pub mod EarlierLaws
 pub mod MeantLaws
 pub mod RecordPartLaws
 pub mod WrittenLaws

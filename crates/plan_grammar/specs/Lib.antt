@@ -1,4 +1,5 @@
 pub mod Line
 pub mod Meant
 pub mod Refused
+pub mod Earlier
 pub mod Written
