@@ -6,7 +6,7 @@ use native.Mathlib.Omega.{arith}
 use native.Mathlib.Nat.{pow-succ', pow-zero, one-le-pow, two-pow-succ, zero-div, div-one, div-div-eq-div-mul, div-lt-iff-lt-mul}
 use lib.Dec.{eqb, ltb, lit<, leb·suc-suc}
 use lib.Bits.{bitAnd, bitOr, and-shr, or-shr, and-mod, or-mod}
-use borrow.Author.Tests.{eq-eqb, ne-eqb, lt-ltb, le-ltb, ltb-true, ltb-false}
+use borrow.Author.Tests.{eq-eqb, ne-eqb, eqb-false, lt-ltb, le-ltb, ltb-true, ltb-false}
 use Rattle.array.specs.Bit.{bit}
 use Rattle.array.proofs.TestLaws.{split}
 
@@ -78,6 +78,15 @@ bit-ones (suc n) (suc i) =
     bit-next (2 ^ suc n - 1) i ∙ ap (λ (w : ℕ). bit w i) half ∙ bit-ones n i ∙ sym (leb·suc-suc (suc i) n)
 
 -- ---- a mask of n bits
+
+-- with none of them set it is 0
+pub mask-none : (nodes mask : ℕ) → mask < 2 ^ nodes → ((i : ℕ) → i < nodes → bit mask i ≡ false) → mask ≡ 0
+mask-none zero mask l none = omega (arith, rw pow-zero at l)
+mask-none (suc n) mask l none =
+    let even : mask % 2 ≡ 1 → ⊥ = eqb-false (mask % 2) 1 (sym (bit-first mask) ∙ none 0 (omega arith)) in
+    let rest : mask / 2 ≡ 0 =
+    mask-none n (mask / 2) (omega (arith, two-pow-succ n)) (λ i k. sym (bit-next mask i) ∙ none (suc i) (omega arith)) in
+    omega (arith, even)
 
 pub mask-fits : (mask nodes : ℕ) → eqb (mask / 2 ^ nodes) 0 ≡ ltb mask (2 ^ nodes)
 mask-fits mask nodes =

@@ -116,6 +116,23 @@ module _ (q : ℕ → Bool) where
       more : q n ≡ false → 0 < howMany q n
       more t = omega (arith, ap {B = ℕ} (λ (b : Bool). cond b 1 0) t)
 
+  -- all are counted exactly where all pass
+  pub howMany-all : (n : ℕ) → howMany q n ≡ n → (k : ℕ) → k < n → q k ≡ true
+  unfolding howMany
+  howMany-all zero h k l = absurd (not-suc-le-zero l)
+  howMany-all (suc n) h k l =
+      split (eqb k n)
+      (λ t. subst (λ (x : ℕ). q x ≡ true) (sym (eqb-true k n t)) last)
+      (λ t. howMany-all n (omega (arith, h, howMany-bound n, bit-one (q n))) k (omega (arith, eqb-false k n t)))
+    where
+      last : q n ≡ true
+      last = split (q n) (λ e. e) (λ e. absurd (omega (arith, h, howMany-bound n, ap {B = ℕ} (λ (b : Bool). cond b 1 0) e)))
+
+  pub howMany-every : (n : ℕ) → ((k : ℕ) → k < n → q k ≡ true) → howMany q n ≡ n
+  unfolding howMany
+  howMany-every zero f = refl
+  howMany-every (suc n) f = rw (f n (omega arith)) (omega (arith, howMany-every n (λ k l. f k (omega arith))))
+
 module _ (q r : ℕ → Bool) where
   pub howMany-le : (n : ℕ) → ((k : ℕ) → k < n → q k ≡ true → r k ≡ true) → howMany q n ≤ howMany r n
   unfolding howMany

@@ -4,3 +4,4 @@ pub mod PlaneLaws
 pub mod PackedLaws
 pub mod BinLaws
 pub mod AgreementLaws
+pub mod AtMostTwoLaws

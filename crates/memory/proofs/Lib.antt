@@ -3,3 +3,4 @@ pub mod MessageLaws
 pub mod NodeLaws
 pub mod VoteLaws
 pub mod AgreementLaws
+pub mod AtMostTwoLaws

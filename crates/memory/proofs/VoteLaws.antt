@@ -60,7 +60,7 @@ module _ (p : Plan) (m : Memory) (box : List ℕ) where
   vote-counter v l h = rw (majority-of-most (counterIn p box) (p .nodes) v h, lt-ltb v (p .frames) l)
 
   module _ (size : p .cells ≤ length (m .cells)) (g : ℕ) (frame : before p (voted p m box .counter) ≡ g) where
-    vote-cell : (c : ℕ) → c < p .cells → getD (voted p m box .cells) c 0 ≡ votedCell p m box g c
+    pub vote-cell : (c : ℕ) → c < p .cells → getD (voted p m box .cells) c 0 ≡ votedCell p m box g c
     unfolding voted
     vote-cell c l = rw frame (fill-in (votedCell p m box g) (p .cells) (m .cells) c 0 l (omega arith))
 

@@ -20,12 +20,7 @@ use Rattle.system.specs.Demand.{Call, singleFinally, masks, MostGood, Pr
 use Rattle.system.specs.Agreement.{recordBefore, workingIn, Agreement}
 use Rattle.system.proofs.CountLaws.{counts-ok}
 use Rattle.system.proofs.StateLaws.{State, most-work, agreement-working}
-use Rattle.system.proofs.DemandLaws.{runs-frame, frame-is, one-left, state-finally}
-
-one-right : (p : Plan) (a b : List Call) → OnePlan p (a ++ b) → OnePlan p b
-unfolding OnePlan
-one-right p [] b one = one
-one-right p (c ∷ a) b one = one-right p a b (one .1)
+use Rattle.system.proofs.DemandLaws.{runs-frame, frame-is, one-left, one-right, state-finally}
 
 premise-left : (p : Plan) (a b : List Call) (past : List ℕ) → Premise p (a ++ b) past → Premise p a past
 unfolding Premise

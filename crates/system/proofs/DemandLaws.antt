@@ -31,7 +31,7 @@ use Rattle.system.proofs.StateLaws.{State, state-start, state-whole, st
 -- ---- one call
 
 -- the masks of the frames so far, with this call's if it is a frame
-abbrev since : Call → List ℕ → List ℕ
+abbrev pub since : Call → List ℕ → List ℕ
 since c past = cond (isFrame c) (c .mask ∷ past) past
 
 -- what the call leaves in its place beside the single controller's memory after it
@@ -58,7 +58,7 @@ unfolding callAnswer callTests AllNamed
 call-number c = answered-number (callTests c) (named-by InvalidPlan _, (named-by MaskOrCount _, (named-by WrongLength _, tt)))
 
 -- the plan of a call that is not refused with 7 is p
-accepted-is : {p : Plan} (c : Call) → (c .plan ≡ p) ⊎ (accepted (c .plan) ≡ false) → accepted (c .plan) ≡ true → c .plan ≡ p
+pub accepted-is : {p : Plan} (c : Call) → (c .plan ≡ p) ⊎ (accepted (c .plan) ≡ false) → accepted (c .plan) ≡ true → c .plan ≡ p
 accepted-is c plan e = ⊎-elim (λ q. q) (λ f. absurd (clash e f)) plan
 
 pub frame-is : {p : Plan} (c : Call) → (c .plan ≡ p) ⊎ (accepted (c .plan) ≡ false) → isFrame c ≡ true → c .plan ≡ p
@@ -206,6 +206,11 @@ pub one-left : (p : Plan) (a b : List Call) → OnePlan p (a ++ b) → OnePlan p
 unfolding OnePlan
 one-left p [] b one = tt
 one-left p (c ∷ a) b one = (one .0, one-left p a b (one .1))
+
+pub one-right : (p : Plan) (a b : List Call) → OnePlan p (a ++ b) → OnePlan p b
+unfolding OnePlan
+one-right p [] b one = one
+one-right p (c ∷ a) b one = one-right p a b (one .1)
 
 -- the single's counter is the number of frames, modulo F, whoever was good
 module _ (p : Plan) (pos : 0 < p .frames) where

@@ -92,7 +92,7 @@ recovered-whole p accept s m size past r = memory-same m s (r .counter) size (λ
 
 -- ---- what is heard
 
-heard-length :
+pub heard-length :
     (p : Plan) (sys : System) (sensors : List ℕ) (mask : ℕ) (faults : List ℕ) (i j : ℕ) →
     length (heard p sys sensors mask faults i j) ≡ binSize p
 unfolding heard

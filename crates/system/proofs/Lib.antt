@@ -6,5 +6,6 @@ pub mod CountLaws
 pub mod FrameLaws
 pub mod StateLaws
 pub mod DemandLaws
-pub mod NotEmpty
 pub mod AgreementLaws
+pub mod AtMostTwoLaws
+pub mod NotEmpty

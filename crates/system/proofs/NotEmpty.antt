@@ -2,7 +2,7 @@
 -- refused calls, a node that tells each neighbour something else, and its recovery. Without the premise, or without its R frames, the demand is false.
 use mathlib.Core.Path.{_≡_, refl, sym, ap, _∙_}
 use mathlib.Core.Bool.{Bool, true, false}
-use mathlib.Core.List.{List, [], _∷_}
+use mathlib.Core.List.{List, [], _∷_, _++_}
 use mathlib.Core.Logic.{inl, inr}
 use Prim.Native.Nat.{ℕ, zero, suc, _*_, _^_, _<_}
 use native.Mathlib.Omega.{arith}
@@ -31,18 +31,20 @@ use Rattle.system.specs.Counts.{countAfter, goodAfter}
 use Rattle.system.specs.Frame.{memoryOf, computedBy, heard, mailboxOf, memoryAfter, putOut, systemAfter, placeAfter, agreementBy, frameAgreement, maskOk, countsOk, lengthsOk, frameTests, frameAnswer, framePlace, singlePlace}
 use Rattle.system.specs.Demand.{Call, callLengths, callTests, callAnswer, isFrame, next, answers, places, finally, singleNext, singlePlaces, singleFinally, callAnswers, masks, goodIn, MostGood, Premise, OnePlan, Tolerated}
 use Rattle.system.specs.Agreement.{agreements}
+use Rattle.system.specs.AtMostTwo.{allGood, memoryIn, Apart}
 use Rattle.system.proofs.DemandLaws.{demand3}
+use Rattle.system.proofs.AtMostTwoLaws.{one-stays-apart}
 
 -- ---- plan K
 
 noVotes : List Bool
 noVotes = replicate 512 false
 
--- plan K with these votes
-plan : List Bool → Plan
-plan votes =
+-- plan K with so many nodes and these votes
+plan : ℕ → List Bool → Plan
+plan n votes =
     record {
-      nodes = 3;
+      nodes = n;
       frames = 2;
       cells = 2;
       sensors = 1;
@@ -58,11 +60,11 @@ plan votes =
     }
 
 pub planK : Plan
-planK = plan (set noVotes 33 true)
+planK = plan 3 (set noVotes 33 true)
 
 -- plan K without its vote: 6, so that 7 refuses its record
 planZ : Plan
-planZ = plan noVotes
+planZ = plan 3 noVotes
 
 planK-period : period planK ≡ 3
 unfolding planK plan noVotes period periodTo allKnown known knowFrame knowVoted knowTasks knowTask readsKnown reads votedIn allBelow allIn
@@ -316,3 +318,121 @@ pub recovery-needed : ((p : Plan) → accepted p ≡ true → (cs : List Call) �
 unfolding valueIn
 recovery-needed demand =
     omega (arith, ap (valueIn 1) (sym early-places ∙ demand planK planK-accepted early early-plan early-now .setpoints ∙ early-single))
+
+-- ---- request 2026-04: two controllers, and one
+
+pub planTwo : Plan
+planTwo = plan 2 (set noVotes 33 true)
+
+pub planOne : Plan
+planOne = plan 1 (set noVotes 33 true)
+
+planTwo-period : period planTwo ≡ 3
+unfolding planTwo plan noVotes period periodTo allKnown known knowFrame knowVoted knowTasks knowTask readsKnown reads votedIn allBelow allIn
+planTwo-period = refl
+
+planTwo-wellFormed : wellFormed planTwo ≡ true
+unfolding planTwo plan noVotes wellFormed storable headerOk entriesOk taskEntry taskOk opOk constantsOk reads isUnused isZeroTake notFalling initialEntry voteEntry actuatorEntry
+    opStorable votedIn allBelow allIn
+planTwo-wellFormed = refl
+
+planTwo-accepted : accepted planTwo ≡ true
+unfolding accepted
+planTwo-accepted = rw (planTwo-wellFormed, planTwo-period)
+
+planOne-period : period planOne ≡ 3
+unfolding planOne plan noVotes period periodTo allKnown known knowFrame knowVoted knowTasks knowTask readsKnown reads votedIn allBelow allIn
+planOne-period = refl
+
+planOne-wellFormed : wellFormed planOne ≡ true
+unfolding planOne plan noVotes wellFormed storable headerOk entriesOk taskEntry taskOk opOk constantsOk reads isUnused isZeroTake notFalling initialEntry voteEntry actuatorEntry
+    opStorable votedIn allBelow allIn
+planOne-wellFormed = refl
+
+planOne-accepted : accepted planOne ≡ true
+unfolding accepted
+planOne-accepted = rw (planOne-wellFormed, planOne-period)
+
+-- fault bytes of two nodes, all 255, and of one, all 0
+filledTwo : List ℕ
+filledTwo = replicate 124 255
+
+silentOne : List ℕ
+silentOne = replicate 44 0
+
+-- two that work throughout: inside the premise, and the press gets the single's setpoints
+pub runTwo : List Call
+runTwo =
+    call planTwo 0 filledTwo one (lit< tt)
+    ∷ call planTwo 0 filledTwo one (lit< tt)
+    ∷ call planTwo 0 filledTwo two (lit< tt)
+    ∷ call planTwo 0 filledTwo two (lit< tt)
+    ∷ []
+
+runTwo-plan : OnePlan planTwo runTwo
+unfolding OnePlan runTwo call
+runTwo-plan = (inl refl, (inl refl, (inl refl, (inl refl, tt))))
+
+runTwo-premise : Premise planTwo runTwo []
+unfolding Premise MostGood goodIn passed isFrame callTests callLengths lengthsOk maskOk runTwo call filledTwo bit howMany
+    planTwo plan noVotes period periodTo allKnown known knowFrame knowVoted knowTasks knowTask readsKnown reads votedIn allBelow allIn
+runTwo-premise = rw planTwo-accepted (λ e. lit< tt, (λ e. lit< tt, (λ e. lit< tt, (λ e. lit< tt, tt))))
+
+runTwo-single : singlePlaces (poweredOn planTwo) runTwo ≡ (0 ∷ []) ∷ (one ∷ []) ∷ (one ∷ []) ∷ (three ∷ []) ∷ []
+unfolding singlePlaces singleNext passed isFrame callTests callLengths lengthsOk maskOk runTwo call filledTwo poweredOn computed singlePlace setpoint
+    runTasks runTask opValue sumOf fill ofBits toBits isNan add planTwo plan noVotes
+runTwo-single = rw planTwo-accepted refl
+
+pub runTwo-listing : places (powerOn planTwo) runTwo ≡ (0 ∷ []) ∷ (one ∷ []) ∷ (one ∷ []) ∷ (three ∷ []) ∷ []
+runTwo-listing = demand3 planTwo planTwo-accepted runTwo runTwo-plan runTwo-premise .setpoints ∙ runTwo-single
+
+-- node 0 of two is bad: the plane hands on what it puts out
+pub lostTwo : List Call
+lostTwo = call planTwo 1 filledTwo one (lit< tt) ∷ []
+
+lostTwo-plan : OnePlan planTwo lostTwo
+unfolding OnePlan lostTwo call
+lostTwo-plan = (inl refl, tt)
+
+pub lostTwo-places : places (powerOn planTwo) lostTwo ≡ (18446744073709551615 ∷ []) ∷ []
+unfolding passed ifPassed places framePlace frameTests countsOk maskOk lengthsOk lostTwo call filledTwo powerOn poweredOn placeAfter memoryAfter putOut computedBy heard mailboxOf
+    faultMemory faultMessage faultSetpoint plane mostHeld backing computed messageOf binOf sentCell before voted votedCounter votedCell orOwn counterFrom
+    cellFrom counterIn cellIn setpoint majority firstShared shared holders holds runTasks runTask opValue sumOf votedIn howMany fill joined from be bytes
+    bit ofBits toBits isNan add
+    planTwo plan noVotes period periodTo allKnown known knowFrame knowVoted knowTasks knowTask readsKnown reads allIn allBelow
+lostTwo-places = rw planTwo-accepted refl
+
+lostTwo-single : singlePlaces (poweredOn planTwo) lostTwo ≡ (0 ∷ []) ∷ []
+unfolding singlePlaces singleNext passed isFrame callTests callLengths lengthsOk maskOk lostTwo call filledTwo poweredOn computed singlePlace setpoint
+    runTasks runTask opValue sumOf fill ofBits toBits isNan add planTwo plan noVotes
+lostTwo-single = rw planTwo-accepted refl
+
+-- so with two controllers the premise is needed
+pub both-needed : ((p : Plan) → accepted p ≡ true → p .nodes ≡ 2 → (cs : List Call) → OnePlan p cs → Tolerated p cs) → ⊥
+unfolding valueIn planTwo plan
+both-needed demand =
+    omega (arith, ap (valueIn 0) (sym lostTwo-places ∙ demand planTwo planTwo-accepted refl lostTwo lostTwo-plan .setpoints ∙ lostTwo-single))
+
+-- a fault leaves the only controller in frame 0, and the next is frame 1
+pub lostOne : List Call
+lostOne = call planOne 1 silentOne one (lit< tt) ∷ []
+
+lostOne-left : memoryIn planOne lostOne 0 .counter ≡ 0
+unfolding finally next passed ifPassed frameAnswer frameTests countsOk maskOk lengthsOk lostOne call silentOne powerOn poweredOn systemAfter memoryAfter faultMemory
+    goodAfter countAfter fill be bit planOne plan noVotes period periodTo allKnown known knowFrame knowVoted knowTasks knowTask readsKnown reads votedIn allIn allBelow
+lostOne-left = rw planOne-accepted refl
+
+lostOne-single : singleFinally (poweredOn planOne) lostOne .counter ≡ 1
+unfolding singleFinally singleNext passed isFrame callTests callLengths lengthsOk maskOk lostOne call silentOne poweredOn computed planOne plan
+lostOne-single = rw planOne-accepted refl
+
+lostOne-apart : Apart planOne (memoryIn planOne lostOne 0) (singleFinally (poweredOn planOne) lostOne)
+unfolding Apart planOne plan
+lostOne-apart = rw (lostOne-left, lostOne-single) (λ e. omega (arith, e))
+
+-- it stays in the other frame, however long it works
+pub lostOne-for-ever :
+    (later : List Call) → OnePlan planOne (lostOne ++ later) → allGood later ≡ true →
+    Apart planOne (memoryIn planOne (lostOne ++ later) 0) (singleFinally (poweredOn planOne) (lostOne ++ later))
+unfolding planOne plan
+lostOne-for-ever later same good = one-stays-apart planOne planOne-accepted refl lostOne later same good lostOne-apart

@@ -4,3 +4,4 @@ pub mod Counts
 pub mod Frame
 pub mod Demand
 pub mod Agreement
+pub mod AtMostTwo
