@@ -14,7 +14,7 @@ use Rattle.ballot.specs.Plane.{plane}
 use Rattle.ballot.proofs.MajorityLaws.{holds-true, majority-some}
 use Rattle.ballot.proofs.ScanLaws.{holders-held}
 use Rattle.ballot.proofs.PlaneLaws.{Handed, plane-handed, plane-some}
-use Rattle.ballot.proofs.AgreementLaws.{agreement-none, agreement-half, agreement-bound}
+use Rattle.ballot.proofs.AgreementLaws.{holders-bound, agreement-none, agreement-of-most, agreement-half, agreement-bound}
 
 module _ (bin : ℕ → Option ℕ) (n : ℕ) (two : n ≤ 2) where
   -- "More than half of two is two"
@@ -49,3 +49,9 @@ module _ (bin : ℕ → Option ℕ) (n : ℕ) (two : n ≤ 2) where
       let all : bin 0 ≡ some w = most-all w
       (omega (arith, two, holders-held bin n 0 l e, h .most 0 v l e, eqb-false (holders bin n v) (holders bin n w) t)) 0 l in
       r .1 ∙ sym all ∙ e)
+
+-- a bin by itself is more than half
+pub agreement-one : (bin : ℕ → Option ℕ) (v : ℕ) → bin 0 ≡ some v → agreement bin 1 ≡ 1
+agreement-one bin v e =
+    let held : 0 < holders bin 1 v = holders-held bin 1 0 (omega arith) e in
+    omega (arith, agreement-of-most bin 1 v (omega (arith, held)), held, holders-bound bin 1 v)

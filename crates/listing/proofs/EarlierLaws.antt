@@ -1,22 +1,22 @@
--- Request 2026-04: "plans accepted before keep every answer", call by call. What a call answers and what it leaves in records and buffers is by its tests (`answered`, `ifPassed`) or by
--- the refusal of its text: for a record of 3 nodes or more, and for a text whose header has 3 or more, these are the ones before the request.
+-- Request 2026-04: "plans accepted before keep every answer", call by call (those of the library for C: `ragbasalt`'s EarlierLaws). What a call answers and what it leaves in records
+-- and buffers is by its tests (`answered`, `ifPassed`) or by the refusal of its text: but for records and texts of fewer than 3 nodes that are accepted now, these are the ones before.
 use mathlib.Core.Path.{_≡_}
-use mathlib.Core.Bool.{_&&_}
+use mathlib.Core.Bool.{true, _&&_}
 use mathlib.Core.List.{List, [], _∷_}
-use mathlib.Core.Option.{some, Option·getD}
+use mathlib.Core.Option.{Option·getD}
 use Prim.Native.Nat.{ℕ, _≤_}
 use lib.Dec.{eqb, leb}
 use lib.ListN.{length}
 use Rattle.answer.specs.declared.Answer.the-variants.{Done}
 use Rattle.answer.specs.Tests.{Test, test, unlessRefused}
 use Rattle.plan.specs.declared.Plan.{Plan}
+use Rattle.plan.specs.Accepted.{accepted}
 use Rattle.plan.specs.Earlier.{leastBefore, acceptedFrom}
 use Rattle.plan.proofs.EarlierLaws.{accepted-kept}
 use Rattle.plan_period.specs.Answers.{planTests}
-use Rattle.plan_grammar.specs.Line.{numbersAt, second}
 use Rattle.plan_grammar.specs.Meant.{zeroPlan, planOf}
 use Rattle.plan_grammar.specs.Written.{planText}
-use Rattle.plan_grammar.specs.Earlier.{refusalBefore}
+use Rattle.plan_grammar.specs.Earlier.{refusalBefore, NotFew}
 use Rattle.plan_grammar.proofs.EarlierLaws.{text-kept}
 use Rattle.plan_text.specs.Answers.{readAnswer, writeTests}
 use Rattle.memory.specs.Node.{poweredOn}
@@ -35,7 +35,7 @@ use Rattle.listing.specs.Answers.{zeroRun, startOf, startAnswer, lineTes
 abbrev seven : Plan → Test
 seven p = test 7 (acceptedFrom leastBefore p)
 
-module _ (p : Plan) (many : leastBefore ≤ p .nodes) where
+module _ (p : Plan) (many : accepted p ≡ true → leastBefore ≤ p .nodes) where
   -- `plan_period`'s calls, and power-on of a node and of a system
   pub plan-kept : planTests p ≡ seven p ∷ []
   unfolding planTests
@@ -73,7 +73,7 @@ module _ (p : Plan) (many : leastBefore ≤ p .nodes) where
 
 -- the next line of a run
 pub next-kept :
-    (r : Run) → leastBefore ≤ r .plan .nodes → (rest : List ℕ) (room : ℕ) →
+    (r : Run) → (accepted (r .plan) ≡ true → leastBefore ≤ r .plan .nodes) → (rest : List ℕ) (room : ℕ) →
     nextTests r rest room
     ≡ seven (r .plan)
     ∷ test 9 (countsOk (r .plan) (r .system))
@@ -85,7 +85,7 @@ next-kept r many rest room = rw (accepted-kept (r .plan) many)
 
 -- ---- texts
 
-module _ (s : List ℕ) (many : (l : List ℕ) → numbersAt s 0 ≡ some l → leastBefore ≤ second l) where
+module _ (s : List ℕ) (many : NotFew s) where
   pub read-kept : readAnswer s ≡ record { answer = Option·getD (refusalBefore s) Done; plan = unlessRefused (refusalBefore s) (planOf s) zeroPlan }
   unfolding readAnswer
   read-kept = rw (text-kept s many)

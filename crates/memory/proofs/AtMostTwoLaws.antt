@@ -13,9 +13,9 @@ use Rattle.array.proofs.LeastLaws.{least-of}
 use Rattle.plan.specs.declared.Plan.{Plan}
 use Rattle.plan.specs.Known.{votedIn}
 use Rattle.ballot.specs.Majority.{majority, orOwn}
-use Rattle.ballot.proofs.AtMostTwoLaws.{majority-all, agreement-all}
+use Rattle.ballot.proofs.AtMostTwoLaws.{majority-all, agreement-all, agreement-one}
 use Rattle.memory.specs.declared.Memory.{Memory}
-use Rattle.memory.specs.Node.{before, counterIn, cellIn, votedCounter, votedCell, voted, voteAgreement}
+use Rattle.memory.specs.Node.{before, counterFrom, cellFrom, counterIn, cellIn, votedCounter, votedCell, voted, voteAgreement}
 use Rattle.memory.proofs.NodeLaws.{memory-same}
 use Rattle.memory.proofs.VoteLaws.{vote-length, vote-past, vote-cell, vote-kept}
 
@@ -69,3 +69,10 @@ unfolding voteAgreement
 vote-agreement-all p two m box =
     least-of _ _ (λ (k : ℕ). (k ≡ p .nodes) ⊎ (k ≡ 0)) (p .cells) _ (agreement-all (counterIn p box) (p .nodes) two)
     (λ c k t. agreement-all (cellIn p box c) (p .nodes) two)
+
+-- of a node by itself it is 1: there is one bin, and it holds something
+pub vote-agreement-one : (p : Plan) → p .nodes ≡ 1 → (m : Memory) (box : List ℕ) → voteAgreement p m box ≡ 1
+unfolding voteAgreement counterIn counterFrom cellIn cellFrom
+vote-agreement-one p one m box =
+    rw one
+    (least-of _ _ (λ (k : ℕ). k ≡ 1) (p .cells) _ (agreement-one (counterIn p box) _ refl) (λ c k t. agreement-one (cellIn p box c) _ refl))

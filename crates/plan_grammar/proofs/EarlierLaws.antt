@@ -1,21 +1,21 @@
 -- Request 2026-04: a text keeps its refusal, or that it is not refused, unless its header has 1 or 2 nodes.
-use mathlib.Core.Path.{_≡_, refl, sym, ap, _∙_}
+use mathlib.Core.Path.{_≡_, refl, sym, _∙_}
 use mathlib.Core.Bool.{Bool, true, false}
 use mathlib.Core.List.{List}
 use mathlib.Core.Option.{Option, none, some}
-use Prim.Native.Nat.{ℕ, zero, suc, _-_, _/_, _≤_, _<_}
+use Prim.Native.Nat.{ℕ, zero, suc, _-_, _≤_, _<_}
 use native.Mathlib.Omega.{arith}
 use lib.Dec.{eqb, leb}
 use lib.ListN.{length}
 use borrow.Author.Tests.{leb-true, leb-false}
-use Rattle.array.proofs.TestLaws.{split, and-false-right}
-use Rattle.answer.specs.declared.Answer.{Answer}
+use Rattle.array.proofs.TestLaws.{split, and-right, and-false-right}
 use Rattle.answer.specs.declared.Answer.the-variants.{Header}
+use Rattle.plan.specs.Limits.{leastNodes}
 use Rattle.plan.specs.Earlier.{leastBefore}
-use Rattle.plan.proofs.EarlierLaws.{header-kept, header-refused}
-use Rattle.plan_grammar.specs.Line.{lineSize, lineCount, numbersAt, lineAt, kindOf, second, third, fourth, fifth, sixth, headerKind}
+use Rattle.plan.proofs.EarlierLaws.{kept-test, header-now, header-few, header-before-many, header-kept}
+use Rattle.plan_grammar.specs.Line.{lineCount, numbersAt, lineAt, kindOf, second, third, fourth, fifth, sixth, headerKind}
 use Rattle.plan_grammar.specs.Refused.{lengthOk, isHeader, rulesOf, formOrRules, lineRefusal, firstRefusal, linesRefusal, textRefusal}
-use Rattle.plan_grammar.specs.Earlier.{rulesBy, formOrRulesBy, lineRefusalBy, firstRefusalBy, textRefusalBy, isHeaderBefore, refusalBefore}
+use Rattle.plan_grammar.specs.Earlier.{rulesBy, formOrRulesBy, lineRefusalBy, firstRefusalBy, textRefusalBy, isHeaderFrom, refusalFrom, refusalBefore, NotFew}
 use Rattle.plan_grammar.proofs.LineLaws.{some-line}
 use Rattle.plan_grammar.proofs.RefusedLaws.{no-answer}
 
@@ -37,47 +37,60 @@ module _ (header : List ℕ → Bool) (s : List ℕ) (same : (l : List ℕ) → 
   unfolding textRefusal linesRefusal textRefusalBy
   text-by = rw (first-by (lineCount s))
 
--- with the test of now, the refusals are those of now
-pub text-now : (s : List ℕ) → textRefusalBy isHeader s ≡ textRefusal s
-text-now s = sym (text-by isHeader s (λ l e. refl))
+-- with the least number of now, the refusals are those of now
+pub text-now : (s : List ℕ) → refusalFrom leastNodes s ≡ textRefusal s
+unfolding refusalFrom isHeaderFrom isHeader
+text-now s = sym (text-by (isHeaderFrom leastNodes) s (λ l e. rw (header-now (second l) (third l) (fourth l) (fifth l) (sixth l) 0)))
 
--- ---- a text whose first line has 3 nodes or more, or is not of the form
+-- ---- every text but those whose first line is now a header of fewer than 3 nodes
+
+before-header : (l : List ℕ) → isHeaderFrom leastBefore l ≡ true → leastBefore ≤ second l
+unfolding isHeaderFrom
+before-header l e = header-before-many (second l) (third l) (fourth l) (fifth l) (sixth l) 0 (and-right (eqb (kindOf l) headerKind) _ e)
+
+header-same : (l : List ℕ) → leastBefore ≤ second l → isHeader l ≡ isHeaderFrom leastBefore l
+unfolding isHeader isHeaderFrom
+header-same l many = rw (header-kept (second l) (third l) (fourth l) (fifth l) (sixth l) 0 (λ t. many))
 
 -- it is answered as it was
-pub text-kept : (s : List ℕ) → ((l : List ℕ) → numbersAt s 0 ≡ some l → leastBefore ≤ second l) → textRefusal s ≡ refusalBefore s
-unfolding refusalBefore isHeader isHeaderBefore
-text-kept s n = text-by isHeaderBefore s (λ l e. rw (header-kept (second l) (third l) (fourth l) (fifth l) (sixth l) 0 (n l e)))
+pub text-kept : (s : List ℕ) → NotFew s → textRefusal s ≡ refusalBefore s
+unfolding refusalFrom NotFew
+text-kept s many =
+    text-by (isHeaderFrom leastBefore) s
+    (λ l e. kept-test (isHeader l) (isHeaderFrom leastBefore l) (λ t. header-same l (many l e t)) (λ t. header-same l (before-header l t) ∙ t))
 
--- ---- a text whose first line has fewer was refused with 3
+-- ---- those were refused with 3
 
 module _ (s : List ℕ) (ok : lengthOk (length s) ≡ true) (l : List ℕ) (e : numbersAt s 0 ≡ some l) (few : second l < leastBefore) where
-  not-header : isHeaderBefore l ≡ false
-  unfolding isHeaderBefore
-  not-header = and-false-right (eqb (kindOf l) headerKind) (header-refused (second l) (third l) (fourth l) (fifth l) (sixth l) 0 few)
+  few-not-header : isHeaderFrom leastBefore l ≡ false
+  unfolding isHeaderFrom
+  few-not-header = and-false-right (eqb (kindOf l) headerKind) (header-few (second l) (third l) (fourth l) (fifth l) (sixth l) 0 few)
 
-  first-few : (i : ℕ) → firstRefusalBy isHeaderBefore s (suc i) ≡ some Header
+  first-few : (i : ℕ) → firstRefusalBy (isHeaderFrom leastBefore) s (suc i) ≡ some Header
   unfolding firstRefusalBy lineRefusalBy formOrRulesBy rulesBy
-  first-few zero = rw (e, not-header)
+  first-few zero = rw (e, few-not-header)
   first-few (suc i) = rw (first-few i)
 
   pub text-few : refusalBefore s ≡ some Header
-  unfolding refusalBefore textRefusalBy
+  unfolding refusalFrom textRefusalBy
   text-few = by (lineCount s) refl (some-line (length s) ok)
     where
-      by : (n : ℕ) → lineCount s ≡ n → 0 < n → textRefusalBy isHeaderBefore s ≡ some Header
+      by : (n : ℕ) → lineCount s ≡ n → 0 < n → refusalBefore s ≡ some Header
       by zero q h = absurd (omega arith)
       by (suc i) q h = rw (ok, q, first-few i)
 
--- ---- so a text accepted before is accepted
+-- ---- a text accepted before is none of those, and is accepted
 
-pub text-before : (s : List ℕ) → refusalBefore s ≡ none → textRefusal s ≡ none
-unfolding refusalBefore textRefusalBy
-text-before s e = text-kept s many ∙ e
-  where
-    long : lengthOk (length s) ≡ true
-    long = split (lengthOk (length s)) (λ t. t) (λ t. no-answer (rw t at e))
+module _ (s : List ℕ) (e : refusalBefore s ≡ none) where
+  before-long : lengthOk (length s) ≡ true
+  unfolding refusalFrom textRefusalBy
+  before-long = split (lengthOk (length s)) (λ t. t) (λ t. no-answer (rw t at e))
 
-    many : (l : List ℕ) → numbersAt s 0 ≡ some l → leastBefore ≤ second l
-    many l q =
-        split (leb leastBefore (second l)) (leb-true leastBefore (second l))
-        (λ t. no-answer (sym (text-few s long l q (leb-false leastBefore (second l) t)) ∙ e))
+  pub text-before-many : NotFew s
+  unfolding NotFew
+  text-before-many l q t =
+      split (leb leastBefore (second l)) (leb-true leastBefore (second l))
+      (λ f. no-answer (sym (text-few s before-long l q (leb-false leastBefore (second l) f)) ∙ e))
+
+  pub text-before : textRefusal s ≡ none
+  text-before = text-kept s text-before-many ∙ e

@@ -1,46 +1,46 @@
--- What request 2026-04 has of a press of one or two controllers holds.
+-- What AtMostTwo states of a press of one or two controllers holds (request 2026-04); and what the press is handed there, and the listing says of it.
 use mathlib.Core.Path.{_≡_, refl, sym, ap, _∙_}
-use mathlib.Core.Bool.{Bool, true, false, not, cond}
+use mathlib.Core.Bool.{Bool, true, false, not}
 use mathlib.Core.List.{List, [], _∷_, _++_}
 use mathlib.Core.Logic.{_⊎_, inr}
 use mathlib.Core.Option.{some, Option·getD}
-use Prim.Native.Nat.{ℕ, zero, suc, _+_, _*_, _%_, _^_, _≤_, _<_}
+use Prim.Native.Nat.{ℕ, zero, suc, _%_, _^_, _≤_, _<_}
 use native.Mathlib.Omega.{arith}
 use native.Mathlib.Nat.{mod-eq-of-lt}
-use lib.Dec.{eqb, lit<}
+use lib.Dec.{eqb}
 use lib.ListN.{length, getD, take}
 use borrow.Author.Tests.{ltb-true, eqb-true, eq-eqb, not-true}
-use Rattle.array.specs.Index.{howMany, allBelow, allIn, fill}
+use Rattle.array.specs.Index.{allBelow, allIn, fill}
 use Rattle.array.proofs.TestLaws.{split, and-left, and-right, and-both}
 use Rattle.array.proofs.IndexLaws.{allBelow-at, allBelow-not, howMany-bound, howMany-all, howMany-every}
 use Rattle.array.proofs.LeastLaws.{least-missing, least-of-some}
 use Rattle.array.proofs.PlacesLaws.{fill-length, fill-in, fill-same}
 use Rattle.array.proofs.BitLaws.{bit-none, mask-none}
-use Rattle.answer.specs.Tests.{passed, ifPassed}
+use Rattle.answer.specs.Tests.{passed}
 use Rattle.plan.specs.declared.Plan.{Plan}
 use Rattle.plan.specs.Known.{period, votedIn}
 use Rattle.plan.specs.Sizes.{sizesOf}
 use Rattle.plan.specs.Accepted.{accepted}
 use Rattle.plan.proofs.AcceptedLaws.{Shape, shape-of-accepted}
 use Rattle.memory.specs.declared.Memory.{Memory}
-use Rattle.memory.specs.Node.{zeroMemory, poweredOn, computed, before, messageOf, binOf, counterIn, cellIn, setpoint}
+use Rattle.memory.specs.Node.{zeroMemory, poweredOn, computed, before, messageOf, binOf, counterIn, cellIn}
 use Rattle.ballot.proofs.AtMostTwoLaws.{plane-first}
 use Rattle.task.proofs.TaskLaws.{Bounded}
 use Rattle.memory.proofs.MessageLaws.{sentCell-voted, counterFrom-message, cellFrom-message, counterIn-bin, cellIn-bin}
-use Rattle.memory.proofs.NodeLaws.{computed-small, computed-length, computed-bounded}
+use Rattle.memory.proofs.NodeLaws.{poweredOn-bounded, computed-small, computed-length, computed-bounded}
 use Rattle.memory.proofs.VoteLaws.{before-computed, vote-length}
-use Rattle.memory.proofs.AtMostTwoLaws.{vote-counter-own, vote-own, vote-agreement-all}
+use Rattle.memory.proofs.AtMostTwoLaws.{vote-counter-own, vote-own, vote-agreement-all, vote-agreement-one}
 use Rattle.system.specs.declared.System.{System}
-use Rattle.system.specs.System.{powerOn}
+use Rattle.system.specs.System.{zeroSystem, powerOn}
 use Rattle.system.specs.Fault.{bad, faultSetpoint}
-use Rattle.system.specs.Frame.{memoryOf, computedBy, heard, mailboxOf, memoryAfter, putOut, systemAfter, placeAfter, agreementBy, frameAgreement, maskOk, countsOk, frameAnswer}
+use Rattle.system.specs.Frame.{memoryOf, computedBy, heard, mailboxOf, memoryAfter, putOut, systemAfter, placeAfter, agreementBy, frameAgreement, maskOk}
 use Rattle.system.specs.Demand.{Call, callTests, isFrame, next, finally, singleNext, singleFinally, masks, goodIn, MostGood, Premise, OnePlan}
-use Rattle.system.specs.AtMostTwo.{allGood, Vouched, NoRepair, Apart, StaysApart, OneStaysApart}
-use Rattle.system.proofs.FaultLaws.{faultMemory-length}
-use Rattle.system.proofs.CountLaws.{Counts, counts-ok, counts-after}
-use Rattle.system.proofs.FrameLaws.{heard-length}
+use Rattle.system.specs.AtMostTwo.{allGood, Vouched, Bytes, NoRepair, Apart, StaysApart, OneStaysApart}
+use Rattle.system.proofs.FaultLaws.{faultMemory-length, faultMemory-bounded}
+use Rattle.system.proofs.CountLaws.{Counts, counts-after}
+use Rattle.system.proofs.FrameLaws.{heard-length, memory-after}
 use Rattle.system.proofs.StateLaws.{State, state-start}
-use Rattle.system.proofs.DemandLaws.{since, runs-frame, accepted-is, frame-is, one-left, one-right}
+use Rattle.system.proofs.DemandLaws.{since, frame-is, single-frame, single-refused, next-frame, next-refused, one-left, one-right}
 
 -- ---- lists of masks
 
@@ -59,10 +59,10 @@ since-own : (q : ℕ → Bool) (c : Call) (past : List ℕ) → isFrame c ≡ tr
 unfolding allIn
 since-own q c past e h = and-left (q (c .mask)) (allIn q past) (rw e at h)
 
-masks-past : (q : ℕ → Bool) (cs : List Call) (past : List ℕ) → allIn q (masks cs past) ≡ true → allIn q past ≡ true
+all-past : (q : ℕ → Bool) (cs : List Call) (past : List ℕ) → allIn q (masks cs past) ≡ true → allIn q past ≡ true
 unfolding masks
-masks-past q [] past h = h
-masks-past q (c ∷ cs) past h = since-past q c past (masks-past q cs (since c past) h)
+all-past q [] past h = h
+all-past q (c ∷ cs) past h = since-past q c past (all-past q cs (since c past) h)
 
 goodIn-is : (i : ℕ) (l : List ℕ) → goodIn i l ≡ allIn (goodMask i) l
 unfolding goodIn allIn
@@ -101,11 +101,11 @@ module _ (p : Plan) (accept : accepted p ≡ true) where
   unfolding Premise masks
   premise-of-good [] past h = tt
   premise-of-good (c ∷ cs) past h =
-      (λ e. zero-most (c .mask) past (rw e at (masks-past zeroMask cs (since c past) h)), premise-of-good cs (since c past) h)
+      (λ e. zero-most (c .mask) past (rw e at (all-past zeroMask cs (since c past) h)), premise-of-good cs (since c past) h)
 
-  frame-mask : (c : Call) → (c .plan ≡ p) ⊎ (accepted (c .plan) ≡ false) → isFrame c ≡ true → c .mask < 2 ^ p .nodes
+  mask-below : (c : Call) → (c .plan ≡ p) ⊎ (accepted (c .plan) ≡ false) → isFrame c ≡ true → c .mask < 2 ^ p .nodes
   unfolding passed isFrame callTests maskOk
-  frame-mask c plan e = rw (frame-is c plan e) at (ltb-true (c .mask) (2 ^ c .plan .nodes) (and-left _ _ (and-right (accepted (c .plan)) _ e)))
+  mask-below c plan e = rw (frame-is c plan e) at (ltb-true (c .mask) (2 ^ c .plan .nodes) (and-left _ _ (and-right (accepted (c .plan)) _ e)))
 
   module _ (two : p .nodes ≤ 2) where
     most-zero : (mask : ℕ) (past : List ℕ) → mask < 2 ^ p .nodes → MostGood p mask past → mask ≡ 0
@@ -122,7 +122,7 @@ module _ (p : Plan) (accept : accepted p ≡ true) where
     good-of-premise (c ∷ cs) past one h premise = good-of-premise cs (since c past) (one .1) (here (isFrame c) refl) (premise .1)
       where
         here : (b : Bool) → isFrame c ≡ b → allIn zeroMask (since c past) ≡ true
-        here true e = rw e (and-both (eq-eqb (c .mask) 0 (most-zero (c .mask) past (frame-mask c (one .0) e) (premise .0 e))) h)
+        here true e = rw e (and-both (eq-eqb (c .mask) 0 (most-zero (c .mask) past (mask-below c (one .0) e) (premise .0 e))) h)
         here false e = rw e h
 
 pub vouched : Vouched
@@ -195,41 +195,28 @@ length-after p sys sensors mask faults i =
     (λ e. rw e (vote-length p (computed p sensors (memoryOf sys i)) (mailboxOf p sys sensors mask faults i) ∙ computed-length p sensors (memoryOf sys i)))
 
 module _ (p : Plan) (c : Call) (plan : (c .plan ≡ p) ⊎ (accepted (c .plan) ≡ false)) (sys : System) (past : List ℕ) (ran : Ran p sys past) where
-  passes : accepted (c .plan) ≡ true → countsOk (c .plan) sys ≡ true
-  passes e = rw (accepted-is c plan e) (counts-ok p sys past (ran .counts))
+  memory-next : isFrame c ≡ true → (i : ℕ) → i < p .nodes → memoryOf (next sys c) i ≡ memoryAfter p sys (c .sensors) (c .mask) (c .faults) i
+  memory-next e i l = rw (next-frame p c plan sys past (ran .counts) e) (memory-after p sys (c .sensors) (c .mask) (c .faults) (ran .memories) i l)
 
-  -- a frame runs, and any other call leaves all as it is
-  next-frame : isFrame c ≡ true → next sys c ≡ systemAfter p sys (c .sensors) (c .mask) (c .faults)
-  unfolding ifPassed next frameAnswer
-  next-frame e = rw (runs-frame sys c passes, e, frame-is c plan e)
-
-  next-refused : isFrame c ≡ false → next sys c ≡ sys
-  unfolding ifPassed next frameAnswer
-  next-refused e = rw (runs-frame sys c passes, e)
-
-  single-frame : isFrame c ≡ true → (s : Memory) → singleNext s c ≡ computed p (c .sensors) s
-  unfolding singleNext
-  single-frame e s = rw (e, frame-is c plan e)
-
-  single-refused : isFrame c ≡ false → (s : Memory) → singleNext s c ≡ s
-  unfolding singleNext
-  single-refused e s = rw e
-
-  memory-after : (i : ℕ) → i < p .nodes → memoryOf (systemAfter p sys (c .sensors) (c .mask) (c .faults)) i ≡ memoryAfter p sys (c .sensors) (c .mask) (c .faults) i
-  unfolding systemAfter
-  memory-after i l = fill-in (memoryAfter p sys (c .sensors) (c .mask) (c .faults)) (p .nodes) (sys .memories) i zeroMemory l (omega (arith, ran .memories))
+  memory-stays : isFrame c ≡ false → (i : ℕ) → memoryOf (next sys c) i ≡ memoryOf sys i
+  memory-stays e i = rw (next-refused p c plan sys past (ran .counts) e)
 
   ran-frame : Ran p (systemAfter p sys (c .sensors) (c .mask) (c .faults)) (c .mask ∷ past)
   unfolding systemAfter
   ran-frame =
       record {
         memories = omega (arith, ran .memories, fill-length (memoryAfter p sys (c .sensors) (c .mask) (c .faults)) (p .nodes) (sys .memories));
-        sizes = λ i l. rw (memory-after i l) (omega (arith, ran .sizes i l, length-after p sys (c .sensors) (c .mask) (c .faults) i));
+        sizes = λ i l.
+            rw (memory-after p sys (c .sensors) (c .mask) (c .faults) (ran .memories) i l)
+            (omega (arith, ran .sizes i l, length-after p sys (c .sensors) (c .mask) (c .faults) i));
         counts = counts-after p sys past (ran .counts) (c .sensors) (c .mask) (c .faults);
       }
 
   ran-next : Ran p (next sys c) (since c past)
-  ran-next = split (isFrame c) (λ e. rw (next-frame e, e) ran-frame) (λ e. rw (next-refused e, e) ran)
+  ran-next =
+      split (isFrame c)
+      (λ e. rw (next-frame p c plan sys past (ran .counts) e, e) ran-frame)
+      (λ e. rw (next-refused p c plan sys past (ran .counts) e, e) ran)
 
 ran-finally : (p : Plan) (cs : List Call) → OnePlan p cs → (sys : System) (past : List ℕ) → Ran p sys past → Ran p (finally sys cs) (masks cs past)
 unfolding OnePlan finally masks
@@ -258,6 +245,14 @@ same-frame p pos sensors m s e =
     ∙ ap (before p) (sym (mod-eq-of-lt (computed-small p sensors m pos)) ∙ e ∙ mod-eq-of-lt (computed-small p sensors s pos))
     ∙ before-computed p sensors s pos
 
+module _ (p : Plan) (accept : accepted p ≡ true) where
+  single-bounded :
+      (c : Call) → (c .plan ≡ p) ⊎ (accepted (c .plan) ≡ false) → (s : Memory) → Bounded (s .cells) → Bounded (singleNext s c .cells)
+  single-bounded c plan s bounded =
+      split (isFrame c)
+      (λ e. rw (single-frame p c plan e s) (computed-bounded p (c .sensors) s (shape-of-accepted p accept) (c .patterns) bounded))
+      (λ e. rw (single-refused p c plan e s) bounded)
+
 module _ (p : Plan) (accept : accepted p ≡ true) (two : p .nodes ≤ 2) (i : ℕ) (l : i < p .nodes) where
   module _
       (c : Call) (plan : (c .plan ≡ p) ⊎ (accepted (c .plan) ≡ false)) (sys : System) (past : List ℕ) (ran : Ran p sys past)
@@ -268,33 +263,55 @@ module _ (p : Plan) (accept : accepted p ≡ true) (two : p .nodes ≤ 2) (i : �
       apart-next s apart =
           split (isFrame c)
           (λ e.
-          let after : memoryOf (next sys c) i .counter ≡ computed p (c .sensors) (memoryOf sys i) .counter =
-          ap (λ (x : System). memoryOf x i .counter) (next-frame p c plan sys past ran e)
-          ∙ ap (λ (x : Memory). x .counter) (memory-after p c plan sys past ran i l)
-          ∙ counter-own p accept two sys (c .sensors) (c .mask) (c .faults) i l (good e) in
-          rw (after, single-frame p c plan sys past ran e s)
+          rw (
+            memory-next p c plan sys past ran e i l,
+            counter-own p accept two sys (c .sensors) (c .mask) (c .faults) i l (good e),
+            single-frame p c plan e s,
+          )
           (λ q. apart (same-frame p (shape-of-accepted p accept .frames-pos) (c .sensors) (memoryOf sys i) s q)))
-          (λ e. rw (next-refused p c plan sys past ran e, single-refused p c plan sys past ran e s) apart)
+          (λ e. rw (memory-stays p c plan sys past ran e i, single-refused p c plan e s) apart)
 
-      alone-next : Bounded (memoryOf sys i .cells) → memoryOf (next sys c) i ≡ singleNext (memoryOf sys i) c
-      alone-next bounded =
+      own-next : Bounded (memoryOf sys i .cells) → memoryOf (next sys c) i ≡ singleNext (memoryOf sys i) c
+      own-next bounded =
           split (isFrame c)
           (λ e.
-          rw (next-frame p c plan sys past ran e, single-frame p c plan sys past ran e (memoryOf sys i))
-          (memory-after p c plan sys past ran i l
-          ∙ memory-own p accept two sys (c .sensors) (c .mask) (c .faults) i l (good e) (ran .sizes i l) (c .patterns) bounded))
-          (λ e. rw (next-refused p c plan sys past ran e, single-refused p c plan sys past ran e (memoryOf sys i)))
+          memory-next p c plan sys past ran e i l
+          ∙ memory-own p accept two sys (c .sensors) (c .mask) (c .faults) i l (good e) (ran .sizes i l) (c .patterns) bounded
+          ∙ sym (single-frame p c plan e (memoryOf sys i)))
+          (λ e. memory-stays p c plan sys past ran e i ∙ sym (single-refused p c plan e (memoryOf sys i)))
 
-      bounded-next : (s : Memory) → Bounded (s .cells) → Bounded (singleNext s c .cells)
-      bounded-next s bounded =
-          split (isFrame c)
-          (λ e. rw (single-frame p c plan sys past ran e s) (computed-bounded p (c .sensors) s (shape-of-accepted p accept) (c .patterns) bounded))
-          (λ e. rw (single-refused p c plan sys past ran e s) bounded)
+  -- a call leaves words in its memory, whatever bytes a fault has
+  bounded-next :
+      (c : Call) (plan : (c .plan ≡ p) ⊎ (accepted (c .plan) ≡ false)) (sys : System) (past : List ℕ) → Ran p sys past →
+      ((k : ℕ) → getD (c .faults) k 0 < 256) → Bounded (memoryOf sys i .cells) → Bounded (memoryOf (next sys c) i .cells)
+  unfolding memoryAfter
+  bounded-next c plan sys past ran bytes bounded =
+      split (isFrame c)
+      (λ e.
+      split (bad (c .mask) i)
+      (λ b. rw (memory-next p c plan sys past ran e i l, b) (faultMemory-bounded (sizesOf p) (c .faults) i (memoryOf sys i) bytes bounded))
+      (λ b. rw (own-next c plan sys past ran (λ t. b) bounded) (single-bounded p accept c plan (memoryOf sys i) bounded)))
+      (λ e. rw (memory-stays p c plan sys past ran e i) bounded)
+
+  bounded-finally :
+      (cs : List Call) → OnePlan p cs → Bytes cs → (sys : System) (past : List ℕ) → Ran p sys past →
+      Bounded (memoryOf sys i .cells) → Bounded (memoryOf (finally sys cs) i .cells)
+  unfolding OnePlan Bytes finally
+  bounded-finally [] one bytes sys past ran bounded = bounded
+  bounded-finally (c ∷ cs) one bytes sys past ran bounded =
+      bounded-finally cs (one .1) (bytes .1) (next sys c) (since c past) (ran-next p c (one .0) sys past ran)
+      (bounded-next c (one .0) sys past ran (bytes .0) bounded)
+
+  start-bounded : Bounded (memoryOf (powerOn p) i .cells)
+  unfolding powerOn
+  start-bounded =
+      let shape = shape-of-accepted p accept in
+      rw (fill-in (λ k. poweredOn p) (p .nodes) (zeroSystem .memories) i zeroMemory l (omega (arith, shape .nodes-high))) (poweredOn-bounded p shape)
 
   -- in the frames of a list, on top of any before it
   good-here : (c : Call) (cs : List Call) (top : List ℕ) → allIn (goodMask i) (masks (c ∷ cs) top) ≡ true → isFrame c ≡ true → bad (c .mask) i ≡ false
   unfolding masks
-  good-here c cs top good e = not-true (bad (c .mask) i) (since-own (goodMask i) c top e (masks-past (goodMask i) cs (since c top) good))
+  good-here c cs top good e = not-true (bad (c .mask) i) (since-own (goodMask i) c top e (all-past (goodMask i) cs (since c top) good))
 
   apart-finally :
       (cs : List Call) → OnePlan p cs → (sys : System) (s : Memory) (past top : List ℕ) → Ran p sys past → allIn (goodMask i) (masks cs top) ≡ true →
@@ -305,23 +322,27 @@ module _ (p : Plan) (accept : accepted p ≡ true) (two : p .nodes ≤ 2) (i : �
       apart-finally cs (one .1) (next sys c) (singleNext s c) (since c past) (since c top) (ran-next p c (one .0) sys past ran) good
       (apart-next c (one .0) sys past ran (good-here c cs top good) s apart)
 
-  alone-finally :
+  own-finally :
       (cs : List Call) → OnePlan p cs → (sys : System) (past top : List ℕ) → Ran p sys past → allIn (goodMask i) (masks cs top) ≡ true →
       Bounded (memoryOf sys i .cells) → memoryOf (finally sys cs) i ≡ singleFinally (memoryOf sys i) cs
   unfolding OnePlan finally singleFinally masks
-  alone-finally [] one sys past top ran good bounded = refl
-  alone-finally (c ∷ cs) one sys past top ran good bounded =
-      let step : memoryOf (next sys c) i ≡ singleNext (memoryOf sys i) c = alone-next c (one .0) sys past ran (good-here c cs top good) bounded in
-      alone-finally cs (one .1) (next sys c) (since c past) (since c top) (ran-next p c (one .0) sys past ran) good
-      (rw step (bounded-next c (one .0) sys past ran (good-here c cs top good) (memoryOf sys i) bounded))
+  own-finally [] one sys past top ran good bounded = refl
+  own-finally (c ∷ cs) one sys past top ran good bounded =
+      let step : memoryOf (next sys c) i ≡ singleNext (memoryOf sys i) c = own-next c (one .0) sys past ran (good-here c cs top good) bounded in
+      own-finally cs (one .1) (next sys c) (since c past) (since c top) (ran-next p c (one .0) sys past ran) good
+      (rw step (single-bounded p accept c (one .0) (memoryOf sys i) bounded))
       ∙ ap (λ (m : Memory). singleFinally m cs) step
 
 pub no-repair : NoRepair
-no-repair p accept two earlier later one i l good bounded =
+no-repair p accept two earlier later one bytes i l good =
     ap (λ (x : System). memoryOf x i) (finally-append earlier later (powerOn p))
-    ∙ alone-finally p accept two i l later (one-right p earlier later one) (finally (powerOn p) earlier) (masks earlier []) []
-    (ran-finally p earlier (one-left p earlier later one) (powerOn p) [] (ran-start p accept))
-    (sym (goodIn-is i (masks later [])) ∙ good) bounded
+    ∙ own-finally p accept two i l later (one-right p earlier later one) (finally (powerOn p) earlier) (masks earlier []) []
+    (ran-finally p earlier before (powerOn p) [] (ran-start p accept))
+    (sym (goodIn-is i (masks later [])) ∙ good)
+    (bounded-finally p accept two i l earlier before bytes (powerOn p) [] (ran-start p accept) (start-bounded p accept two i l))
+  where
+    before : OnePlan p earlier
+    before = one-left p earlier later one
 
 pub stays-apart : StaysApart
 stays-apart p accept two earlier later one i l good apart =
@@ -359,3 +380,12 @@ module _ (p : Plan) (accept : accepted p ≡ true) (two : p .nodes ≤ 2) (sys :
       let r = allBelow-not (bad mask) (p .nodes) t in
       least-of-some _ _ (λ (k : ℕ). (k ≡ p .nodes) ⊎ (k ≡ 0)) (p .nodes) (r .0) (r .1) (ap not (r .2))
       (λ k l u. vote-agreement-all p two (computedBy p sys sensors mask faults k) (mailboxOf p sys sensors mask faults k)))
+
+-- one controller alone agrees with itself in every frame in which it is good, whatever it holds
+pub one-agrees :
+    (p : Plan) → p .nodes ≡ 1 → (sys : System) (sensors : List ℕ) (mask : ℕ) (faults : List ℕ) → bad mask 0 ≡ false →
+    frameAgreement p sys sensors mask faults ≡ 1
+unfolding frameAgreement agreementBy
+one-agrees p one sys sensors mask faults good =
+    least-of-some _ _ (λ (k : ℕ). k ≡ 1) (p .nodes) 0 (omega arith) (ap not good)
+    (λ k l u. vote-agreement-one p one (computedBy p sys sensors mask faults k) (mailboxOf p sys sensors mask faults k))

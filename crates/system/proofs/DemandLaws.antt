@@ -17,13 +17,13 @@ use Rattle.plan.specs.Known.{known, period}
 use Rattle.plan.specs.Accepted.{accepted}
 use Rattle.plan.proofs.AcceptedLaws.{shape-of-accepted}
 use Rattle.memory.specs.declared.Memory.{Memory}
-use Rattle.memory.specs.Node.{poweredOn}
+use Rattle.memory.specs.Node.{poweredOn, computed}
 use Rattle.memory.proofs.NodeLaws.{poweredOn-counter}
 use Rattle.system.specs.declared.System.{System}
 use Rattle.system.specs.System.{powerOn}
 use Rattle.system.specs.Fault.{bad}
 use Rattle.system.specs.Counts.{goodCount}
-use Rattle.system.specs.Frame.{memoryOf, goodOf, maskOk, countsOk, frameTests, frameAnswer, framePlace, singlePlace}
+use Rattle.system.specs.Frame.{memoryOf, goodOf, systemAfter, maskOk, countsOk, frameTests, frameAnswer, framePlace, singlePlace}
 use Rattle.system.specs.Demand.{Call, callLengths, callTests, callAnswer, isFrame, next, answers, places, finally, singleNext, singlePlaces, singleFinally, callAnswers, masks, goodIn, MostGood, Premise, OnePlan, Demand3}
 use Rattle.system.proofs.CountLaws.{Counts, counts-start, counts-ok, counts-after}
 use Rattle.system.proofs.StateLaws.{State, state-start, state-whole, state-after, counter-after, place-after, Trusted, state-trusted}
@@ -58,12 +58,34 @@ unfolding callAnswer callTests AllNamed
 call-number c = answered-number (callTests c) (named-by InvalidPlan _, (named-by MaskOrCount _, (named-by WrongLength _, tt)))
 
 -- the plan of a call that is not refused with 7 is p
-pub accepted-is : {p : Plan} (c : Call) → (c .plan ≡ p) ⊎ (accepted (c .plan) ≡ false) → accepted (c .plan) ≡ true → c .plan ≡ p
+accepted-is : {p : Plan} (c : Call) → (c .plan ≡ p) ⊎ (accepted (c .plan) ≡ false) → accepted (c .plan) ≡ true → c .plan ≡ p
 accepted-is c plan e = ⊎-elim (λ q. q) (λ f. absurd (clash e f)) plan
 
 pub frame-is : {p : Plan} (c : Call) → (c .plan ≡ p) ⊎ (accepted (c .plan) ≡ false) → isFrame c ≡ true → c .plan ≡ p
 unfolding passed isFrame callTests
 frame-is c plan e = accepted-is c plan (and-left _ _ e)
+
+-- the single controller computes in a frame, and the press runs it where no good count is above R; any other call leaves both
+module _ (p : Plan) (c : Call) (plan : (c .plan ≡ p) ⊎ (accepted (c .plan) ≡ false)) where
+  pub single-frame : isFrame c ≡ true → (s : Memory) → singleNext s c ≡ computed p (c .sensors) s
+  unfolding singleNext
+  single-frame e s = rw (e, frame-is c plan e)
+
+  pub single-refused : isFrame c ≡ false → (s : Memory) → singleNext s c ≡ s
+  unfolding singleNext
+  single-refused e s = rw e
+
+  module _ (sys : System) (past : List ℕ) (h : Counts p sys past) where
+    counts : accepted (c .plan) ≡ true → countsOk (c .plan) sys ≡ true
+    counts e = rw (accepted-is c plan e) (counts-ok p sys past h)
+
+    pub next-frame : isFrame c ≡ true → next sys c ≡ systemAfter p sys (c .sensors) (c .mask) (c .faults)
+    unfolding ifPassed next frameAnswer
+    next-frame e = rw (runs-frame sys c counts, e, frame-is c plan e)
+
+    pub next-refused : isFrame c ≡ false → next sys c ≡ sys
+    unfolding ifPassed next frameAnswer
+    next-refused e = rw (runs-frame sys c counts, e)
 
 record Called (p : Plan) (sys : System) (s : Memory) (past : List ℕ) (c : Call) : Type 0 where
   state : State p (next sys c) (singleNext s c) (since c past)
@@ -155,12 +177,10 @@ module _ (p : Plan) where
       (c : Call) → (c .plan ≡ p) ⊎ (accepted (c .plan) ≡ false) → (sys : System) (past : List ℕ) →
       Counts p sys past →
       Counts p (next sys c) (since c past)
-  unfolding ifPassed next frameAnswer
   counts-next c plan sys past h =
-      let ok : accepted (c .plan) ≡ true → countsOk (c .plan) sys ≡ true = λ e. rw (accepted-is c plan e) (counts-ok p sys past h) in
       split (isFrame c)
-      (λ e. rw (runs-frame sys c ok, e, frame-is c plan e) (counts-after p sys past h (c .sensors) (c .mask) (c .faults)))
-      (λ e. rw (runs-frame sys c ok, e) h)
+      (λ e. rw (next-frame p c plan sys past h e, e) (counts-after p sys past h (c .sensors) (c .mask) (c .faults)))
+      (λ e. rw (next-refused p c plan sys past h e, e) h)
 
   counts-finally : (cs : List Call) → OnePlan p cs → (sys : System) (past : List ℕ) → Counts p sys past → Counts p (finally sys cs) (masks cs past)
   unfolding OnePlan finally masks
@@ -218,11 +238,10 @@ module _ (p : Plan) (pos : 0 < p .frames) where
       (c : Call) → (c .plan ≡ p) ⊎ (accepted (c .plan) ≡ false) → (s : Memory) (past : List ℕ) →
       s .counter ≡ length past % p .frames →
       singleNext s c .counter ≡ length (since c past) % p .frames
-  unfolding singleNext
   single-step c plan s past e =
       split (isFrame c)
-      (λ f. rw (f, frame-is c plan f) (counter-after p (c .sensors) s (c .mask) past (rw e (mod-lt (length past) pos)) e))
-      (λ f. rw f e)
+      (λ f. rw (single-frame p c plan f s, f) (counter-after p (c .sensors) s (c .mask) past (rw e (mod-lt (length past) pos)) e))
+      (λ f. rw (single-refused p c plan f s, f) e)
 
   single-counter :
       (cs : List Call) → OnePlan p cs → (s : Memory) (past : List ℕ) →

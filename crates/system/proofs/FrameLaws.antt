@@ -12,6 +12,7 @@ use lib.ListN.{length, getD}
 use borrow.Author.Tests.{ltb-true, ltb-false, eqb-true, eqb-false}
 use Rattle.array.specs.Index.{howMany}
 use Rattle.array.proofs.TestLaws.{split, clash}
+use Rattle.array.proofs.PlacesLaws.{fill-in}
 use Rattle.plan.specs.declared.Plan.{Plan}
 use Rattle.plan.specs.Known.{noneKnown, known, period}
 use Rattle.plan.specs.Sizes.{sizesOf}
@@ -21,7 +22,7 @@ use Rattle.plan.proofs.KnownLaws.{known-first, known-next, none-known}
 use Rattle.plan.proofs.PeriodLaws.{allKnown-at, period-reached}
 use Rattle.memory.specs.declared.Memory.{Memory}
 use Rattle.memory.specs.Size.{binSize}
-use Rattle.memory.specs.Node.{computed, before, messageOf, binOf, voted, setpoint}
+use Rattle.memory.specs.Node.{zeroMemory, computed, before, messageOf, binOf, voted, setpoint}
 use Rattle.ballot.specs.Plane.{plane}
 use Rattle.ballot.proofs.MajorityLaws.{holders-least}
 use Rattle.ballot.proofs.PlaneLaws.{plane-of-most}
@@ -33,7 +34,7 @@ use Rattle.memory.proofs.VoteLaws.{Holding, hold-of-messages, MostHold, most-of
 use Rattle.system.specs.declared.System.{System}
 use Rattle.system.specs.Fault.{bad}
 use Rattle.system.specs.Counts.{countAfter, goodAfter}
-use Rattle.system.specs.Frame.{memoryOf, goodOf, computedBy, heard, mailboxOf, memoryAfter, putOut, agreementBy}
+use Rattle.system.specs.Frame.{memoryOf, goodOf, computedBy, heard, mailboxOf, memoryAfter, putOut, systemAfter, agreementBy}
 use Rattle.system.proofs.FaultLaws.{faultMemory-length, faultMemory-past, faultMessage-length}
 use Rattle.system.proofs.RecoveryLaws.{SameRecovery, recovery-sym, known-same, period-same}
 
@@ -100,6 +101,13 @@ heard-length p sys sensors mask faults i j =
     split (bad mask j) (λ e. rw e (faultMessage-length (sizesOf p) faults j i)) (λ e. rw e (bin-length p _))
 
 -- ---- one frame
+
+pub memory-after :
+    (p : Plan) (sys : System) (sensors : List ℕ) (mask : ℕ) (faults : List ℕ) → p .nodes ≤ length (sys .memories) →
+    (i : ℕ) → i < p .nodes → memoryOf (systemAfter p sys sensors mask faults) i ≡ memoryAfter p sys sensors mask faults i
+unfolding systemAfter
+memory-after p sys sensors mask faults room i l =
+    fill-in (memoryAfter p sys sensors mask faults) (p .nodes) (sys .memories) i zeroMemory l (omega (arith, room))
 
 -- more than half of the nodes are good in a frame with this mask, and begin it with the single's memory
 pub record MostWork (p : Plan) (sys : System) (s : Memory) (mask : ℕ) : Type 0 where

@@ -1,5 +1,6 @@
 -- Demand 3 is not empty, by computation. Document 01's run of plan K meets the premise, and the plane's values are the listing's. So does a list with
--- refused calls, a node that tells each neighbour something else, and its recovery. Without the premise, or without its R frames, the demand is false.
+-- refused calls, a node that tells each neighbour something else, and its recovery. Without the premise, or without its R frames, the demand is false. With two controllers (request
+-- 2026-04) a run without faults meets it, and with one of them bad the demand is false; one that a fault left in another frame is there for ever.
 use mathlib.Core.Path.{_≡_, refl, sym, ap, _∙_}
 use mathlib.Core.Bool.{Bool, true, false}
 use mathlib.Core.List.{List, [], _∷_, _++_}
@@ -31,7 +32,7 @@ use Rattle.system.specs.Counts.{countAfter, goodAfter}
 use Rattle.system.specs.Frame.{memoryOf, computedBy, heard, mailboxOf, memoryAfter, putOut, systemAfter, placeAfter, agreementBy, frameAgreement, maskOk, countsOk, lengthsOk, frameTests, frameAnswer, framePlace, singlePlace}
 use Rattle.system.specs.Demand.{Call, callLengths, callTests, callAnswer, isFrame, next, answers, places, finally, singleNext, singlePlaces, singleFinally, callAnswers, masks, goodIn, MostGood, Premise, OnePlan, Tolerated}
 use Rattle.system.specs.Agreement.{agreements}
-use Rattle.system.specs.AtMostTwo.{allGood, memoryIn, Apart}
+use Rattle.system.specs.AtMostTwo.{allGood, memoryFinally, Apart}
 use Rattle.system.proofs.DemandLaws.{demand3}
 use Rattle.system.proofs.AtMostTwoLaws.{one-stays-apart}
 
@@ -66,9 +67,10 @@ planK = plan 3 (set noVotes 33 true)
 planZ : Plan
 planZ = plan 3 noVotes
 
-planK-period : period planK ≡ 3
-unfolding planK plan noVotes period periodTo allKnown known knowFrame knowVoted knowTasks knowTask readsKnown reads votedIn allBelow allIn
-planK-period = refl
+-- R does not go by the number of nodes
+plan-period : (n : ℕ) → period (plan n (set noVotes 33 true)) ≡ 3
+unfolding plan noVotes period periodTo allKnown known knowFrame knowVoted knowTasks knowTask readsKnown reads votedIn allBelow allIn
+plan-period n = refl
 
 planK-wellFormed : wellFormed planK ≡ true
 unfolding planK plan noVotes wellFormed storable headerOk entriesOk taskEntry taskOk opOk constantsOk reads isUnused isZeroTake notFalling initialEntry voteEntry actuatorEntry
@@ -76,8 +78,8 @@ unfolding planK plan noVotes wellFormed storable headerOk entriesOk taskEntry ta
 planK-wellFormed = refl
 
 pub planK-accepted : accepted planK ≡ true
-unfolding accepted
-planK-accepted = rw (planK-wellFormed, planK-period)
+unfolding accepted planK
+planK-accepted = rw (planK-wellFormed, plan-period 3)
 
 planZ-period : period planZ ≡ 0
 unfolding planZ plan noVotes period periodTo allKnown known knowFrame knowVoted knowTasks knowTask readsKnown reads votedIn allBelow allIn
@@ -327,31 +329,23 @@ planTwo = plan 2 (set noVotes 33 true)
 pub planOne : Plan
 planOne = plan 1 (set noVotes 33 true)
 
-planTwo-period : period planTwo ≡ 3
-unfolding planTwo plan noVotes period periodTo allKnown known knowFrame knowVoted knowTasks knowTask readsKnown reads votedIn allBelow allIn
-planTwo-period = refl
-
 planTwo-wellFormed : wellFormed planTwo ≡ true
 unfolding planTwo plan noVotes wellFormed storable headerOk entriesOk taskEntry taskOk opOk constantsOk reads isUnused isZeroTake notFalling initialEntry voteEntry actuatorEntry
     opStorable votedIn allBelow allIn
 planTwo-wellFormed = refl
 
-planTwo-accepted : accepted planTwo ≡ true
-unfolding accepted
-planTwo-accepted = rw (planTwo-wellFormed, planTwo-period)
-
-planOne-period : period planOne ≡ 3
-unfolding planOne plan noVotes period periodTo allKnown known knowFrame knowVoted knowTasks knowTask readsKnown reads votedIn allBelow allIn
-planOne-period = refl
+pub planTwo-accepted : accepted planTwo ≡ true
+unfolding accepted planTwo
+planTwo-accepted = rw (planTwo-wellFormed, plan-period 2)
 
 planOne-wellFormed : wellFormed planOne ≡ true
 unfolding planOne plan noVotes wellFormed storable headerOk entriesOk taskEntry taskOk opOk constantsOk reads isUnused isZeroTake notFalling initialEntry voteEntry actuatorEntry
     opStorable votedIn allBelow allIn
 planOne-wellFormed = refl
 
-planOne-accepted : accepted planOne ≡ true
-unfolding accepted
-planOne-accepted = rw (planOne-wellFormed, planOne-period)
+pub planOne-accepted : accepted planOne ≡ true
+unfolding accepted planOne
+planOne-accepted = rw (planOne-wellFormed, plan-period 1)
 
 -- fault bytes of two nodes, all 255, and of one, all 0
 filledTwo : List ℕ
@@ -417,7 +411,7 @@ both-needed demand =
 pub lostOne : List Call
 lostOne = call planOne 1 silentOne one (lit< tt) ∷ []
 
-lostOne-left : memoryIn planOne lostOne 0 .counter ≡ 0
+lostOne-left : memoryFinally planOne lostOne 0 .counter ≡ 0
 unfolding finally next passed ifPassed frameAnswer frameTests countsOk maskOk lengthsOk lostOne call silentOne powerOn poweredOn systemAfter memoryAfter faultMemory
     goodAfter countAfter fill be bit planOne plan noVotes period periodTo allKnown known knowFrame knowVoted knowTasks knowTask readsKnown reads votedIn allIn allBelow
 lostOne-left = rw planOne-accepted refl
@@ -426,13 +420,13 @@ lostOne-single : singleFinally (poweredOn planOne) lostOne .counter ≡ 1
 unfolding singleFinally singleNext passed isFrame callTests callLengths lengthsOk maskOk lostOne call silentOne poweredOn computed planOne plan
 lostOne-single = rw planOne-accepted refl
 
-lostOne-apart : Apart planOne (memoryIn planOne lostOne 0) (singleFinally (poweredOn planOne) lostOne)
+lostOne-apart : Apart planOne (memoryFinally planOne lostOne 0) (singleFinally (poweredOn planOne) lostOne)
 unfolding Apart planOne plan
 lostOne-apart = rw (lostOne-left, lostOne-single) (λ e. omega (arith, e))
 
 -- it stays in the other frame, however long it works
 pub lostOne-for-ever :
     (later : List Call) → OnePlan planOne (lostOne ++ later) → allGood later ≡ true →
-    Apart planOne (memoryIn planOne (lostOne ++ later) 0) (singleFinally (poweredOn planOne) (lostOne ++ later))
+    Apart planOne (memoryFinally planOne (lostOne ++ later) 0) (singleFinally (poweredOn planOne) (lostOne ++ later))
 unfolding planOne plan
 lostOne-for-ever later same good = one-stays-apart planOne planOne-accepted refl lostOne later same good lostOne-apart

@@ -29,7 +29,7 @@ use Rattle.system.specs.Frame.{memoryOf, goodOf, memoryAfter, systemAfte
 use Rattle.system.specs.Demand.{goodIn, MostGood}
 use Rattle.system.proofs.RecoveryLaws.{SameRecovery, period-same}
 use Rattle.system.proofs.CountLaws.{count-least, count-since, Counts, counts-start, count-after, counts-after}
-use Rattle.system.proofs.FrameLaws.{Single, single-next, Recovering, Node, node-whole, MostWork, agreement-least, node-after, plane-single, single-same, node-same}
+use Rattle.system.proofs.FrameLaws.{Single, single-next, Recovering, Node, node-whole, MostWork, agreement-least, memory-after, node-after, plane-single, single-same, node-same}
 
 -- ---- between two calls
 
@@ -170,10 +170,6 @@ module _
     unfolding isWorking working
     agreement-working i = agreement-least p accept sys s sensors mask faults (st .single) patterns working i
 
-    memory-after : (i : ℕ) → i < p .nodes → memoryOf (systemAfter p sys sensors mask faults) i ≡ memoryAfter p sys sensors mask faults i
-    unfolding systemAfter
-    memory-after i l = fill-in (memoryAfter p sys sensors mask faults) (p .nodes) (sys .memories) i zeroMemory l (omega (arith, st .memories))
-
     pub state-after : State p (systemAfter p sys sensors mask faults) (computed p sensors s) (mask ∷ past)
     unfolding systemAfter
     state-after =
@@ -183,7 +179,7 @@ module _
           single = single-next p (shape-of-accepted p accept) sensors s patterns (st .single);
           frames = counter-after p sensors s mask past (st .single .counter) (st .frames);
           node = λ i l.
-              rw (memory-after i l, count-after p sys past (st .counts) sensors mask faults i l)
+              rw (memory-after p sys sensors mask faults (st .memories) i l, count-after p sys past (st .counts) sensors mask faults i l)
               (node-after p accept sys s sensors mask faults (st .single) patterns working i (st .node i l));
         }
 
