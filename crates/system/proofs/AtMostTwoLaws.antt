@@ -9,7 +9,7 @@ use native.Mathlib.Omega.{arith}
 use native.Mathlib.Nat.{mod-eq-of-lt}
 use lib.Dec.{eqb}
 use lib.ListN.{length, getD, take}
-use borrow.Author.Tests.{ltb-true, eqb-true, eq-eqb, not-true}
+use borrow.Author.Tests.{ltb-true, eqb-true, eq-eqb, ne-eqb, not-true}
 use Rattle.array.specs.Index.{allBelow, allIn, fill}
 use Rattle.array.proofs.TestLaws.{split, and-left, and-right, and-both}
 use Rattle.array.proofs.IndexLaws.{allBelow-at, allBelow-not, howMany-bound, howMany-all, howMany-every}
@@ -33,7 +33,7 @@ use Rattle.memory.proofs.AtMostTwoLaws.{vote-counter-own, vote-own, vote-agreem
 use Rattle.system.specs.declared.System.{System}
 use Rattle.system.specs.System.{zeroSystem, powerOn}
 use Rattle.system.specs.Fault.{bad, faultSetpoint}
-use Rattle.system.specs.Frame.{memoryOf, computedBy, heard, mailboxOf, memoryAfter, putOut, systemAfter, placeAfter, agreementBy, frameAgreement, maskOk}
+use Rattle.system.specs.Frame.{memoryOf, computedBy, heard, mailboxOf, memoryAfter, putOut, systemAfter, placeAfter, agreementBy, frameAgreement, maskOk, sameMemory}
 use Rattle.system.specs.Demand.{Call, callTests, isFrame, next, finally, singleNext, singleFinally, masks, goodIn, MostGood, Premise, OnePlan}
 use Rattle.system.specs.AtMostTwo.{allGood, Vouched, Bytes, NoRepair, Apart, StaysApart, OneStaysApart}
 use Rattle.system.proofs.FaultLaws.{faultMemory-length, faultMemory-bounded}
@@ -357,6 +357,11 @@ one-stays-apart p accept n earlier later one good apart =
     stays-apart p accept (omega arith) earlier later one 0 (omega arith) (zero-good 0 (masks later []) good) apart
 
 -- ---- what the press is handed, and what the columns say
+
+-- a memory in another frame is not equal to the single controller's
+pub apart-unequal : (p : Plan) (m s : Memory) → Apart p m s → sameMemory p m s ≡ false
+unfolding Apart sameMemory
+apart-unequal p m s apart = rw (ne-eqb (m .counter) (s .counter) (λ e. apart (ap (λ (c : ℕ). c % p .frames) e)))
 
 module _ (p : Plan) (accept : accepted p ≡ true) (two : p .nodes ≤ 2) (sys : System) (sensors : List ℕ) (mask : ℕ) (faults : List ℕ) where
   puts : (a j : ℕ) → putOut p sys sensors mask faults a j ≡ some (Option·getD (putOut p sys sensors mask faults a j) 0)
