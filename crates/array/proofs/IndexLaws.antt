@@ -8,6 +8,7 @@ use native.Mathlib.Omega.{arith}
 use native.Mathlib.Nat.{le-refl, not-suc-le-zero}
 use native.Mathlib.Numerals.{add-one}
 use lib.Dec.{eqb}
+use lib.ListN.{take}
 use borrow.Author.Tests.{eqb-true, eqb-false}
 use Rattle.array.specs.Index.{howMany, allBelow, allIn}
 use Rattle.array.proofs.TestLaws.{split, and-left, and-right, and-both, clash}
@@ -62,6 +63,13 @@ module _ (q : ℕ → Bool) where
   unfolding allIn
   allIn-all [] f = refl
   allIn-all (y ∷ l) f = and-both (f y (List·Memᴰ·head refl)) (allIn-all l (λ x m. f x (List·Memᴰ·tail m)))
+
+  -- of the first k entries
+  pub allIn-take : (k : ℕ) (l : List ℕ) → allIn q l ≡ true → allIn q (take k l) ≡ true
+  unfolding allIn
+  allIn-take zero l e = refl
+  allIn-take (suc k) [] e = refl
+  allIn-take (suc k) (x ∷ l) e = and-both (and-left (q x) (allIn q l) e) (allIn-take k l (and-right (q x) (allIn q l) e))
 
 -- ---- how many pass
 

@@ -23,7 +23,7 @@ pub accepted-now : (p : Plan) → acceptedFrom leastNodes p ≡ accepted p
 unfolding acceptedFrom wellFormedFrom headerFrom accepted wellFormed headerOk
 accepted-now p = refl
 
--- ---- a test that implied the one of now, and is equal to it from 3 nodes on, is the one of now but for records of fewer that pass now
+-- ---- two tests are equal if they agree where the one of now passes, and it passes where the one before did
 
 pub kept-test : (now before : Bool) → (now ≡ true → now ≡ before) → (before ≡ true → now ≡ true) → now ≡ before
 kept-test true before same passed = same refl

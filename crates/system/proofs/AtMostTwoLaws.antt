@@ -4,7 +4,7 @@ use mathlib.Core.Bool.{Bool, true, false, not}
 use mathlib.Core.List.{List, [], _∷_, _++_}
 use mathlib.Core.Logic.{_⊎_, inr}
 use mathlib.Core.Option.{some, Option·getD}
-use Prim.Native.Nat.{ℕ, zero, suc, _%_, _^_, _≤_, _<_}
+use Prim.Native.Nat.{ℕ, suc, _%_, _^_, _≤_, _<_}
 use native.Mathlib.Omega.{arith}
 use native.Mathlib.Nat.{mod-eq-of-lt}
 use lib.Dec.{eqb}
@@ -12,7 +12,7 @@ use lib.ListN.{length, getD, take}
 use borrow.Author.Tests.{ltb-true, eqb-true, eq-eqb, ne-eqb, not-true}
 use Rattle.array.specs.Index.{allBelow, allIn, fill}
 use Rattle.array.proofs.TestLaws.{split, and-left, and-right, and-both}
-use Rattle.array.proofs.IndexLaws.{allBelow-at, allBelow-not, howMany-bound, howMany-all, howMany-every}
+use Rattle.array.proofs.IndexLaws.{allBelow-at, allBelow-not, allIn-take, howMany-bound, howMany-all, howMany-every}
 use Rattle.array.proofs.LeastLaws.{least-missing, least-of-some}
 use Rattle.array.proofs.PlacesLaws.{fill-length, fill-in, fill-same}
 use Rattle.array.proofs.BitLaws.{bit-none, mask-none}
@@ -69,12 +69,6 @@ unfolding goodIn allIn
 goodIn-is i [] = refl
 goodIn-is i (mask ∷ l) = rw (goodIn-is i l)
 
-zero-take : (k : ℕ) (l : List ℕ) → allIn zeroMask l ≡ true → allIn zeroMask (take k l) ≡ true
-unfolding allIn
-zero-take zero l h = refl
-zero-take (suc k) [] h = refl
-zero-take (suc k) (mask ∷ l) h = and-both (and-left (eqb mask 0) (allIn zeroMask l) h) (zero-take k l (and-right (eqb mask 0) _ h))
-
 -- where all masks are 0, every node is good
 zero-good : (i : ℕ) (l : List ℕ) → allIn zeroMask l ≡ true → goodIn i l ≡ true
 unfolding goodIn allIn
@@ -94,7 +88,7 @@ module _ (p : Plan) (accept : accepted p ≡ true) where
         arith,
         shape-of-accepted p accept .nodes-low,
         howMany-every (λ i. goodIn i (mask ∷ take (period p) past)) (p .nodes)
-            (λ i l. zero-good i (mask ∷ take (period p) past) (zero-take (suc (period p)) (mask ∷ past) h)),
+            (λ i l. zero-good i (mask ∷ take (period p) past) (allIn-take zeroMask (suc (period p)) (mask ∷ past) h)),
       )
 
   pub premise-of-good : (cs : List Call) (past : List ℕ) → allIn zeroMask (masks cs past) ≡ true → Premise p cs past

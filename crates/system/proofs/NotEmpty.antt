@@ -7,19 +7,20 @@ use mathlib.Core.List.{List, [], _∷_, _++_}
 use mathlib.Core.Logic.{inl, inr}
 use Prim.Native.Nat.{ℕ, zero, suc, _*_, _^_, _<_}
 use native.Mathlib.Omega.{arith}
-use lib.Dec.{lit<}
+use lib.Dec.{leb, lit<}
 use lib.Ieee.{ofBits, toBits, isNan, add}
 use lib.ListN.{getD, set, take, replicate}
 use Rattle.array.specs.Index.{howMany, allBelow, allIn, fill, joined, from, lesser, least}
 use Rattle.array.specs.Word.{be, bytes}
 use Rattle.array.specs.Bit.{bit}
-use Rattle.array.proofs.TestLaws.{clash, and-false-right}
+use Rattle.array.proofs.TestLaws.{clash, and-both, and-false-right}
 use Rattle.pattern.specs.Pattern.{sumOf}
 use Rattle.answer.specs.declared.Answer.the-variants.{Done, InvalidPlan, WrongLength, MaskOrCount}
 use Rattle.plan.specs.declared.Op.the-variants.{Take, Sum}
 use Rattle.answer.specs.Tests.{passed, answerOf, answered, ifPassed}
 use Rattle.plan.specs.declared.Plan.{Plan}
 use Rattle.plan.specs.Known.{unusedTask, votedIn, reads, readsKnown, knowTask, knowTasks, knowVoted, knowFrame, known, allKnown, periodTo, period}
+use Rattle.plan.specs.Limits.{leastNodes, mostNodes}
 use Rattle.plan.specs.Sizes.{sizesOf}
 use Rattle.plan.specs.Accepted.{headerOk, constantsOk, opOk, taskOk, isZeroTake, isUnused, notFalling, taskEntry, initialEntry, voteEntry, actuatorEntry, entriesOk, opStorable, storable, wellFormed, accepted}
 use Rattle.task.specs.Task.{opValue, runTask, runTasks}
@@ -60,26 +61,42 @@ plan n votes =
       «actuator_cell» = set (replicate 8 0) 0 1;
     }
 
+-- its own: cell 1 in frame 1
+voteK : List Bool
+voteK = set noVotes 33 true
+
 pub planK : Plan
-planK = plan 3 (set noVotes 33 true)
+planK = plan 3 voteK
 
 -- plan K without its vote: 6, so that 7 refuses its record
 planZ : Plan
 planZ = plan 3 noVotes
 
--- R does not go by the number of nodes
-plan-period : (n : ℕ) → period (plan n (set noVotes 33 true)) ≡ 3
-unfolding plan noVotes period periodTo allKnown known knowFrame knowVoted knowTasks knowTask readsKnown reads votedIn allBelow allIn
+-- of its tests only the header's goes by the number of nodes, and so R does not
+plan-storable : (n : ℕ) → storable (plan n voteK) ≡ true
+unfolding plan voteK noVotes storable opStorable allBelow
+plan-storable n = refl
+
+plan-entries : (n : ℕ) → entriesOk (plan n voteK) ≡ true
+unfolding plan voteK noVotes entriesOk taskEntry taskOk opOk constantsOk reads isUnused isZeroTake notFalling initialEntry voteEntry actuatorEntry votedIn allBelow allIn
+plan-entries n = refl
+
+plan-period : (n : ℕ) → period (plan n voteK) ≡ 3
+unfolding plan voteK noVotes period periodTo allKnown known knowFrame knowVoted knowTasks knowTask readsKnown reads votedIn allBelow allIn
 plan-period n = refl
 
-planK-wellFormed : wellFormed planK ≡ true
-unfolding planK plan noVotes wellFormed storable headerOk entriesOk taskEntry taskOk opOk constantsOk reads isUnused isZeroTake notFalling initialEntry voteEntry actuatorEntry
-    opStorable votedIn allBelow allIn
-planK-wellFormed = refl
+plan-header : (n : ℕ) → leb leastNodes n ≡ true → leb n mostNodes ≡ true → headerOk n 2 2 1 1 2 ≡ true
+unfolding headerOk
+plan-header n low high = rw (low, high)
+
+plan-accepted : (n : ℕ) → leb leastNodes n ≡ true → leb n mostNodes ≡ true → accepted (plan n voteK) ≡ true
+unfolding accepted wellFormed plan
+plan-accepted n low high =
+    and-both (and-both (plan-storable n) (and-both (plan-header n low high) (plan-entries n))) (rw (plan-period n))
 
 pub planK-accepted : accepted planK ≡ true
-unfolding accepted planK
-planK-accepted = rw (planK-wellFormed, plan-period 3)
+unfolding planK
+planK-accepted = plan-accepted 3 refl refl
 
 planZ-period : period planZ ≡ 0
 unfolding planZ plan noVotes period periodTo allKnown known knowFrame knowVoted knowTasks knowTask readsKnown reads votedIn allBelow allIn
@@ -135,13 +152,13 @@ runK-plan = (inl refl, (inl refl, (inl refl, (inl refl, (inl refl, (inl refl, tt
 
 pub runK-premise : Premise planK runK []
 unfolding Premise MostGood goodIn passed isFrame callTests callLengths lengthsOk maskOk runK call filled bit howMany
-    planK plan noVotes period periodTo allKnown known knowFrame knowVoted knowTasks knowTask readsKnown reads votedIn allBelow allIn
+    planK plan voteK noVotes period periodTo allKnown known knowFrame knowVoted knowTasks knowTask readsKnown reads votedIn allBelow allIn
 runK-premise = rw planK-accepted (λ e. lit< tt, (λ e. lit< tt, (λ e. lit< tt, (λ e. lit< tt, (λ e. lit< tt, (λ e. lit< tt, tt))))))
 
 runK-single :
     singlePlaces (poweredOn planK) runK ≡ (0 ∷ []) ∷ (one ∷ []) ∷ (one ∷ []) ∷ (three ∷ []) ∷ (three ∷ []) ∷ (six ∷ []) ∷ []
 unfolding singlePlaces singleNext passed isFrame callTests callLengths lengthsOk maskOk runK call filled poweredOn computed singlePlace setpoint
-    runTasks runTask opValue sumOf fill ofBits toBits isNan add planK plan noVotes
+    runTasks runTask opValue sumOf fill ofBits toBits isNan add planK plan voteK noVotes
 runK-single = rw planK-accepted refl
 
 -- the plane values of the listing
@@ -182,7 +199,7 @@ mixed-plan = (inl refl, (inr planZ-refused, (inl refl, (inl refl, (inl refl, (in
 
 pub mixed-premise : Premise planK mixed []
 unfolding Premise MostGood goodIn passed isFrame callTests callLengths lengthsOk maskOk mixed call varied filled bit howMany
-    planK planZ plan noVotes period periodTo allKnown known knowFrame knowVoted knowTasks knowTask readsKnown reads votedIn allBelow allIn
+    planK planZ plan voteK noVotes period periodTo allKnown known knowFrame knowVoted knowTasks knowTask readsKnown reads votedIn allBelow allIn
 mixed-premise =
     rw (planK-accepted, planZ-refused)
     (λ e. lit< tt, (refused, (λ e. lit< tt, (refused, (λ e. lit< tt, (refused, (λ e. lit< tt, (λ e. lit< tt, (λ e. lit< tt, tt)))))))))
@@ -195,7 +212,7 @@ unfolding faultMessage varied filled from planK plan
 mixed-messages e = omega (arith, ap (λ (l : List ℕ). getD l 0 0) e)
 
 mixed-calls : callAnswers mixed ≡ Done ∷ InvalidPlan ∷ Done ∷ MaskOrCount ∷ Done ∷ WrongLength ∷ Done ∷ Done ∷ Done ∷ []
-unfolding answered answerOf callAnswers callAnswer callTests callLengths lengthsOk maskOk mixed call varied filled planK planZ plan noVotes
+unfolding answered answerOf callAnswers callAnswer callTests callLengths lengthsOk maskOk mixed call varied filled planK planZ plan voteK noVotes
 mixed-calls = rw (planK-accepted, planZ-refused) refl
 
 pub mixed-refusals : answers (powerOn planK) mixed ≡ Done ∷ InvalidPlan ∷ Done ∷ MaskOrCount ∷ Done ∷ WrongLength ∷ Done ∷ Done ∷ Done ∷ []
@@ -203,7 +220,7 @@ mixed-refusals = demand3 planK planK-accepted mixed mixed-plan mixed-premise .re
 
 mixed-good : goodIn 0 (take (period planK) (masks mixed [])) ≡ true
 unfolding goodIn masks passed isFrame callTests callLengths lengthsOk maskOk mixed call varied filled bit
-    planK planZ plan noVotes period periodTo allKnown known knowFrame knowVoted knowTasks knowTask readsKnown reads votedIn allBelow allIn
+    planK planZ plan voteK noVotes period periodTo allKnown known knowFrame knowVoted knowTasks knowTask readsKnown reads votedIn allBelow allIn
 mixed-good = rw planK-accepted refl
 
 -- node 0 has recovered
@@ -230,7 +247,7 @@ pub runK-agreements : agreements (powerOn planK) runK ≡ 3 ∷ 2 ∷ 2 ∷ 2 �
 unfolding agreements passed ifPassed next frameAnswer frameTests countsOk maskOk lengthsOk runK call filled powerOn poweredOn systemAfter memoryAfter
     goodAfter countAfter frameAgreement agreementBy voteAgreement agreement lesser least computedBy heard mailboxOf faultMemory faultMessage backing computed messageOf
     binOf sentCell before voted votedCounter votedCell orOwn counterFrom cellFrom counterIn cellIn majority firstShared shared holders holds runTasks runTask
-    opValue sumOf votedIn howMany fill joined from be bytes bit ofBits toBits isNan add planK plan noVotes period periodTo allKnown known knowFrame
+    opValue sumOf votedIn howMany fill joined from be bytes bit ofBits toBits isNan add planK plan voteK noVotes period periodTo allKnown known knowFrame
     knowVoted knowTasks knowTask readsKnown reads allIn allBelow
 runK-agreements = rw planK-accepted refl
 
@@ -239,7 +256,7 @@ pub apart-agreements : agreements (powerOn planK) apart ≡ 2 ∷ 2 ∷ []
 unfolding agreements passed ifPassed next frameAnswer frameTests countsOk maskOk lengthsOk apart call silence powerOn poweredOn systemAfter memoryAfter
     goodAfter countAfter frameAgreement agreementBy voteAgreement agreement lesser least computedBy heard mailboxOf faultMemory faultMessage backing computed messageOf
     binOf sentCell before voted votedCounter votedCell orOwn counterFrom cellFrom counterIn cellIn majority firstShared shared holders holds runTasks runTask
-    opValue sumOf votedIn howMany fill joined from be bytes bit ofBits toBits isNan add planK plan noVotes period periodTo allKnown known knowFrame
+    opValue sumOf votedIn howMany fill joined from be bytes bit ofBits toBits isNan add planK plan voteK noVotes period periodTo allKnown known knowFrame
     knowVoted knowTasks knowTask readsKnown reads allIn allBelow
 apart-agreements = rw planK-accepted refl
 
@@ -248,7 +265,7 @@ pub alone-agreements : agreements (powerOn planK) alone ≡ 3 ∷ []
 unfolding agreements passed ifPassed next frameAnswer frameTests countsOk maskOk lengthsOk alone call silence powerOn poweredOn systemAfter memoryAfter
     goodAfter countAfter frameAgreement agreementBy voteAgreement agreement lesser least computedBy heard mailboxOf faultMemory faultMessage backing computed messageOf
     binOf sentCell before voted votedCounter votedCell orOwn counterFrom cellFrom counterIn cellIn majority firstShared shared holders holds runTasks runTask
-    opValue sumOf votedIn howMany fill joined from be bytes bit ofBits toBits isNan add planK plan noVotes period periodTo allKnown known knowFrame
+    opValue sumOf votedIn howMany fill joined from be bytes bit ofBits toBits isNan add planK plan voteK noVotes period periodTo allKnown known knowFrame
     knowVoted knowTasks knowTask readsKnown reads allIn allBelow
 alone-agreements = rw planK-accepted refl
 
@@ -263,12 +280,12 @@ unfolding passed ifPassed places framePlace frameTests countsOk maskOk lengthsOk
     faultMemory faultMessage faultSetpoint plane mostHeld backing computed messageOf binOf sentCell before voted votedCounter votedCell orOwn counterFrom
     cellFrom counterIn cellIn setpoint majority firstShared shared holders holds runTasks runTask opValue sumOf votedIn howMany fill joined from be bytes
     bit ofBits toBits isNan add
-    planK plan noVotes period periodTo allKnown known knowFrame knowVoted knowTasks knowTask readsKnown reads allIn allBelow
+    planK plan voteK noVotes period periodTo allKnown known knowFrame knowVoted knowTasks knowTask readsKnown reads allIn allBelow
 outside-places = rw planK-accepted refl
 
 outside-single : singlePlaces (poweredOn planK) outside ≡ (0 ∷ []) ∷ []
 unfolding singlePlaces singleNext passed isFrame callTests callLengths lengthsOk maskOk outside call filled poweredOn computed singlePlace setpoint
-    runTasks runTask opValue sumOf fill ofBits toBits isNan add planK plan noVotes
+    runTasks runTask opValue sumOf fill ofBits toBits isNan add planK plan voteK noVotes
 outside-single = rw planK-accepted refl
 
 outside-plan : OnePlan planK outside
@@ -306,13 +323,13 @@ early-places : places (powerOn planK) early ≡ (0 ∷ []) ∷ (9221120237041090
 unfolding passed ifPassed places next frameAnswer framePlace frameTests countsOk maskOk lengthsOk early call filled powerOn poweredOn systemAfter placeAfter memoryAfter
     goodAfter countAfter putOut computedBy heard mailboxOf faultMemory faultMessage faultSetpoint plane mostHeld backing computed messageOf binOf sentCell
     before voted votedCounter votedCell orOwn counterFrom cellFrom counterIn cellIn setpoint majority firstShared shared holders holds runTasks runTask
-    opValue sumOf votedIn howMany fill joined from be bytes bit ofBits toBits isNan add planK plan noVotes period periodTo allKnown known knowFrame
+    opValue sumOf votedIn howMany fill joined from be bytes bit ofBits toBits isNan add planK plan voteK noVotes period periodTo allKnown known knowFrame
     knowVoted knowTasks knowTask readsKnown reads allIn allBelow
 early-places = rw planK-accepted refl
 
 early-single : singlePlaces (poweredOn planK) early ≡ (0 ∷ []) ∷ (one ∷ []) ∷ []
 unfolding singlePlaces singleNext passed isFrame callTests callLengths lengthsOk maskOk early call filled poweredOn computed singlePlace setpoint
-    runTasks runTask opValue sumOf fill ofBits toBits isNan add planK plan noVotes
+    runTasks runTask opValue sumOf fill ofBits toBits isNan add planK plan voteK noVotes
 early-single = rw planK-accepted refl
 
 -- so the R frames are needed
@@ -324,28 +341,18 @@ recovery-needed demand =
 -- ---- request 2026-04: two controllers, and one
 
 pub planTwo : Plan
-planTwo = plan 2 (set noVotes 33 true)
+planTwo = plan 2 voteK
 
 pub planOne : Plan
-planOne = plan 1 (set noVotes 33 true)
-
-planTwo-wellFormed : wellFormed planTwo ≡ true
-unfolding planTwo plan noVotes wellFormed storable headerOk entriesOk taskEntry taskOk opOk constantsOk reads isUnused isZeroTake notFalling initialEntry voteEntry actuatorEntry
-    opStorable votedIn allBelow allIn
-planTwo-wellFormed = refl
+planOne = plan 1 voteK
 
 pub planTwo-accepted : accepted planTwo ≡ true
-unfolding accepted planTwo
-planTwo-accepted = rw (planTwo-wellFormed, plan-period 2)
-
-planOne-wellFormed : wellFormed planOne ≡ true
-unfolding planOne plan noVotes wellFormed storable headerOk entriesOk taskEntry taskOk opOk constantsOk reads isUnused isZeroTake notFalling initialEntry voteEntry actuatorEntry
-    opStorable votedIn allBelow allIn
-planOne-wellFormed = refl
+unfolding planTwo
+planTwo-accepted = plan-accepted 2 refl refl
 
 pub planOne-accepted : accepted planOne ≡ true
-unfolding accepted planOne
-planOne-accepted = rw (planOne-wellFormed, plan-period 1)
+unfolding planOne
+planOne-accepted = plan-accepted 1 refl refl
 
 -- fault bytes of two nodes, all 255, and of one, all 0
 filledTwo : List ℕ
@@ -369,12 +376,12 @@ runTwo-plan = (inl refl, (inl refl, (inl refl, (inl refl, tt))))
 
 runTwo-premise : Premise planTwo runTwo []
 unfolding Premise MostGood goodIn passed isFrame callTests callLengths lengthsOk maskOk runTwo call filledTwo bit howMany
-    planTwo plan noVotes period periodTo allKnown known knowFrame knowVoted knowTasks knowTask readsKnown reads votedIn allBelow allIn
+    planTwo plan voteK noVotes period periodTo allKnown known knowFrame knowVoted knowTasks knowTask readsKnown reads votedIn allBelow allIn
 runTwo-premise = rw planTwo-accepted (λ e. lit< tt, (λ e. lit< tt, (λ e. lit< tt, (λ e. lit< tt, tt))))
 
 runTwo-single : singlePlaces (poweredOn planTwo) runTwo ≡ (0 ∷ []) ∷ (one ∷ []) ∷ (one ∷ []) ∷ (three ∷ []) ∷ []
 unfolding singlePlaces singleNext passed isFrame callTests callLengths lengthsOk maskOk runTwo call filledTwo poweredOn computed singlePlace setpoint
-    runTasks runTask opValue sumOf fill ofBits toBits isNan add planTwo plan noVotes
+    runTasks runTask opValue sumOf fill ofBits toBits isNan add planTwo plan voteK noVotes
 runTwo-single = rw planTwo-accepted refl
 
 pub runTwo-listing : places (powerOn planTwo) runTwo ≡ (0 ∷ []) ∷ (one ∷ []) ∷ (one ∷ []) ∷ (three ∷ []) ∷ []
@@ -393,12 +400,12 @@ unfolding passed ifPassed places framePlace frameTests countsOk maskOk lengthsOk
     faultMemory faultMessage faultSetpoint plane mostHeld backing computed messageOf binOf sentCell before voted votedCounter votedCell orOwn counterFrom
     cellFrom counterIn cellIn setpoint majority firstShared shared holders holds runTasks runTask opValue sumOf votedIn howMany fill joined from be bytes
     bit ofBits toBits isNan add
-    planTwo plan noVotes period periodTo allKnown known knowFrame knowVoted knowTasks knowTask readsKnown reads allIn allBelow
+    planTwo plan voteK noVotes period periodTo allKnown known knowFrame knowVoted knowTasks knowTask readsKnown reads allIn allBelow
 lostTwo-places = rw planTwo-accepted refl
 
 lostTwo-single : singlePlaces (poweredOn planTwo) lostTwo ≡ (0 ∷ []) ∷ []
 unfolding singlePlaces singleNext passed isFrame callTests callLengths lengthsOk maskOk lostTwo call filledTwo poweredOn computed singlePlace setpoint
-    runTasks runTask opValue sumOf fill ofBits toBits isNan add planTwo plan noVotes
+    runTasks runTask opValue sumOf fill ofBits toBits isNan add planTwo plan voteK noVotes
 lostTwo-single = rw planTwo-accepted refl
 
 -- so with two controllers the premise is needed
@@ -413,7 +420,7 @@ lostOne = call planOne 1 silentOne one (lit< tt) ∷ []
 
 lostOne-left : memoryFinally planOne lostOne 0 .counter ≡ 0
 unfolding finally next passed ifPassed frameAnswer frameTests countsOk maskOk lengthsOk lostOne call silentOne powerOn poweredOn systemAfter memoryAfter faultMemory
-    goodAfter countAfter fill be bit planOne plan noVotes period periodTo allKnown known knowFrame knowVoted knowTasks knowTask readsKnown reads votedIn allIn allBelow
+    goodAfter countAfter fill be bit planOne plan voteK noVotes period periodTo allKnown known knowFrame knowVoted knowTasks knowTask readsKnown reads votedIn allIn allBelow
 lostOne-left = rw planOne-accepted refl
 
 lostOne-single : singleFinally (poweredOn planOne) lostOne .counter ≡ 1
