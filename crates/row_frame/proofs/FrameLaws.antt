@@ -42,7 +42,8 @@ use Rattle.faults.specs.Code.{Small}
 use Rattle.faults.proofs.LayoutLaws.{small-of-shape}
 use Rattle.rows.specs.Code.{wordPlace, memoryIn, Rows, Stored, Through}
 use Rattle.rows.proofs.RowLaws.{row-at, memory-eq}
-use Rattle.row_vote.specs.Code.{frameBefore, votedAt, isGood, sentWord, votedBy, heardCounter, heardWord, counterAfter, counterAgreement, wordAgreement, sentFrame, votedRow, rowAgreement}
+use Rattle.row_counter.specs.Code.{frameBefore, isGood, heardCounter, counterAfter, counterAgreement}
+use Rattle.row_vote.specs.Code.{votedAt, sentWord, votedBy, heardWord, wordAgreement, sentFrame, votedRow, rowAgreement}
 use Rattle.row_frame.specs.Code.{ran, spoiled, closedRow, putFrom}
 
 -- ---- the numbers of an accepted plan

@@ -21,24 +21,12 @@ use Rattle.memory.specs.Node.{cellFrom}
 use Rattle.system.specs.Fault.{faultMessageAt}
 use Rattle.rows.specs.Code.{wordCount, wordPlace, rowOf, memoryIn, Through}
 use Rattle.rows.proofs.RowLaws.{row-at, row-length, row-same, memory-eq}
-use Rattle.row_vote.specs.Code.{Put, frameBefore, votedAt, isGood, goodOnly, sentWord, agreedFrame, votedBy, heardCounter, heardWord, counterAfter, takes, wordAfter, wordAgreement, sentFrame, votedRow, votedWord}
-use Rattle.row_vote.proofs.PutLaws.{put-idle}
-use Rattle.row_vote.proofs.HeardLaws.{heard-same, heard-agreement, counter-settled}
+use Rattle.row_counter.specs.Code.{Put, frameBefore, isGood, goodOnly, agreedFrame, heardCounter, counterAfter}
+use Rattle.row_counter.proofs.PutLaws.{put-idle}
+use Rattle.row_counter.proofs.HeardLaws.{heard-same, heard-agreement, counter-settled}
+use Rattle.row_vote.specs.Code.{votedAt, sentWord, votedBy, heardWord, takes, wordAfter, wordAgreement, sentFrame, votedRow, votedWord}
 
 -- ---- the frame that is agreed
-
-module _ (frames : ℕ) {o : Option ℕ} where
-  pub agreed-none : o ≡ none → mostFrames ≡ agreedFrame frames o
-  unfolding agreedFrame
-  agreed-none e = rw e
-
-  pub agreed-below : (x : ℕ) → o ≡ some x → x < frames → frameBefore frames x ≡ agreedFrame frames o
-  unfolding agreedFrame
-  agreed-below x e l = rw (e, lt-ltb x frames l)
-
-  pub agreed-above : (x : ℕ) → o ≡ some x → frames ≤ x → mostFrames ≡ agreedFrame frames o
-  unfolding agreedFrame
-  agreed-above x e l = rw (e, le-ltb x frames l)
 
 -- a frame is agreed only where a counter that is one is decided
 pub agreed-some : (frames : ℕ) (o : Option ℕ) {r : ℕ} → r ≡ agreedFrame frames o → r < mostFrames → (x : ℕ) × (o ≡ some x) × (x < frames) × (r ≡ frameBefore frames x)

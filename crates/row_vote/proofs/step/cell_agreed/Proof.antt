@@ -12,9 +12,10 @@ use Rattle.ballot.specs.Majority.{holders}
 use Rattle.ballot.proofs.BinLaws.{told-holders}
 use Rattle.memory.specs.Node.{cellFrom}
 use Rattle.system.specs.Fault.{faultMessageAt}
-use Rattle.row_vote.specs.Code.{isGood, heardWord}
-use Rattle.row_vote.proofs.HeardLaws.{good-if}
-use Rattle.row_vote.proofs.AgreementLaws.{low-reached, low-alone}
+use Rattle.row_counter.specs.Code.{isGood}
+use Rattle.row_counter.proofs.HeardLaws.{good-if}
+use Rattle.row_counter.proofs.AgreementLaws.{low-reached, low-alone}
+use Rattle.row_vote.specs.Code.{heardWord}
 use Rattle.row_vote.proofs.step.cell_agreed.Statement.{statement}
 use Rattle.row_vote.proofs.step.cell_agreed.Tie as tie
 

@@ -14,8 +14,10 @@ use Rattle.plan.specs.Limits.{mostNodes, mostCells}
 use Rattle.ballot.specs.Majority.{majority, agreement}
 use Rattle.ballot.proofs.AgreementLaws.{told-agreement}
 use Rattle.rows.specs.Code.{wordCount, wordPlace}
-use Rattle.row_vote.specs.Code.{Put, takes, heardWord}
-use Rattle.row_vote.proofs.PutLaws.{column-apart, put-none, put-still, put-taken, put-left, put-all}
+use Rattle.row_counter.specs.Code.{Put}
+use Rattle.row_counter.proofs.PutLaws.{put-none, put-still, put-taken, put-left, put-all}
+use Rattle.row_vote.specs.Code.{takes, heardWord}
+use Rattle.row_vote.proofs.PutLaws.{column-apart}
 use Rattle.row_vote.proofs.HeardLaws.{counted-old, takes-if}
 use Rattle.row_vote.proofs.step.cell_each.Statement.{statement}
 use Rattle.row_vote.proofs.step.cell_each.Tie as tie

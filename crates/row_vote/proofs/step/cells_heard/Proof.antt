@@ -9,8 +9,8 @@ use Rattle.plan.specs.Limits.{mostNodes}
 use Rattle.ballot.specs.Code.{Told}
 use Rattle.ballot.proofs.BinLaws.{told-none, told-next}
 use Rattle.system.proofs.FaultLaws.{message-room}
+use Rattle.row_counter.proofs.HeardLaws.{heard-bad, heard-good}
 use Rattle.row_vote.specs.Code.{heardWord}
-use Rattle.row_vote.proofs.HeardLaws.{heard-bad, heard-good}
 use Rattle.row_vote.proofs.step.cells_heard.Statement.{statement}
 use Rattle.row_vote.proofs.step.cells_heard.Tie as tie
 

@@ -11,7 +11,7 @@ use borrow.Author.Needs.{needs}
 use borrow.Author.Tests.{eqb-true, eqb-false}
 use Rattle.array.proofs.TestLaws.{split}
 use Rattle.plan.specs.Limits.{mostNodes, mostFrames}
-use Rattle.row_vote.specs.Code.{frameBefore}
+use Rattle.row_counter.specs.Code.{frameBefore}
 use Rattle.row_vote.proofs.step.frames_before.Statement.{statement}
 use Rattle.row_vote.proofs.step.frames_before.Tie as tie
 

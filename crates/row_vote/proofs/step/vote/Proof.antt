@@ -5,7 +5,7 @@ use Prim.Native.Nat.{ℕ, _<_}
 use lib.ListN.{getD}
 use borrow.Author.Needs.{needs}
 use Rattle.array.specs.Bit.{bit}
-use Rattle.row_vote.specs.Code.{frameBefore, counterAfter}
+use Rattle.row_counter.specs.Code.{frameBefore, counterAfter}
 use Rattle.row_vote.proofs.VoteLaws.{frame-agreed, rows-voted}
 use Rattle.row_vote.proofs.AgreementLaws.{agreed-good, rows-agreed, rows-least}
 use Rattle.row_vote.proofs.step.vote.Statement.{statement}

@@ -11,8 +11,10 @@ use Rattle.array.proofs.LeastLaws.{least-same}
 use Rattle.array.proofs.TestLaws.{and-false-right}
 use Rattle.plan.specs.Limits.{mostCells}
 use Rattle.rows.specs.Code.{wordCount, wordPlace}
-use Rattle.row_vote.specs.Code.{isGood, takes, votedAt, wordAfter, columnsLeast}
-use Rattle.row_vote.proofs.PutLaws.{put-same, takes-one}
+use Rattle.row_counter.specs.Code.{isGood}
+use Rattle.row_counter.proofs.PutLaws.{put-same}
+use Rattle.row_vote.specs.Code.{takes, votedAt, wordAfter, columnsLeast}
+use Rattle.row_vote.proofs.PutLaws.{takes-one}
 use Rattle.row_vote.proofs.VoteLaws.{Voting, voting-none, voting-next, voting-skip, agreement-still}
 use Rattle.row_vote.proofs.AgreementLaws.{columns-none, columns-next, columns-skip}
 use Rattle.row_vote.proofs.step.vote_one.Statement.{statement}

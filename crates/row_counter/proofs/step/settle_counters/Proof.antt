@@ -1,4 +1,4 @@
--- `row_vote::step::settle_counters` meets its contract: the first j nodes have the counter.
+-- `row_counter::step::settle_counters` meets its contract: the first j nodes have the counter.
 use mathlib.Core.Path.{_≡_, refl}
 use mathlib.Core.Logic.{⊎-elim}
 use Prim.Native.Nat.{suc, _-_, _≤_}
@@ -8,11 +8,11 @@ use lib.ListN.{length}
 use borrow.Author.Needs.{needs}
 use Rattle.plan.specs.Limits.{mostNodes}
 use Rattle.rows.specs.Code.{rowCount}
-use Rattle.row_vote.specs.Code.{Put, isGood}
-use Rattle.row_vote.proofs.PutLaws.{suc-apart, put-none, put-taken, put-left, put-all}
-use Rattle.row_vote.proofs.HeardLaws.{good-if}
-use Rattle.row_vote.proofs.step.settle_counters.Statement.{statement}
-use Rattle.row_vote.proofs.step.settle_counters.Tie as tie
+use Rattle.row_counter.specs.Code.{Put, isGood}
+use Rattle.row_counter.proofs.PutLaws.{suc-apart, put-none, put-taken, put-left, put-all}
+use Rattle.row_counter.proofs.HeardLaws.{good-if}
+use Rattle.row_counter.proofs.step.settle_counters.Statement.{statement}
+use Rattle.row_counter.proofs.step.settle_counters.Tie as tie
 
 abbrev Inv-loop : tie.InvT-loop
 Inv-loop nodes mask counter counters₀ j₀ counters j =

@@ -1,4 +1,4 @@
--- `row_vote::step::counters_each` meets its contract: of the first i nodes the good ones have counted.
+-- `row_counter::step::counters_each` meets its contract: of the first i nodes the good ones have counted.
 use mathlib.Core.Path.{_≡_, sym, ap, _∙_}
 use mathlib.Core.Bool.{not}
 use mathlib.Core.Logic.{⊎-elim}
@@ -12,11 +12,11 @@ use Rattle.array.specs.Index.{lesser, least}
 use Rattle.array.proofs.LeastLaws.{least-none, least-taken, least-left}
 use Rattle.ballot.specs.Majority.{majority, agreement, orOwn}
 use Rattle.ballot.proofs.AgreementLaws.{told-agreement}
-use Rattle.row_vote.specs.Code.{Put, isGood, heardCounter}
-use Rattle.row_vote.proofs.PutLaws.{suc-apart, put-none, put-still, put-taken, put-left, put-all}
-use Rattle.row_vote.proofs.HeardLaws.{counted-own}
-use Rattle.row_vote.proofs.step.counters_each.Statement.{statement}
-use Rattle.row_vote.proofs.step.counters_each.Tie as tie
+use Rattle.row_counter.specs.Code.{Put, isGood, heardCounter}
+use Rattle.row_counter.proofs.PutLaws.{suc-apart, put-none, put-still, put-taken, put-left, put-all}
+use Rattle.row_counter.proofs.HeardLaws.{counted-own}
+use Rattle.row_counter.proofs.step.counters_each.Statement.{statement}
+use Rattle.row_counter.proofs.step.counters_each.Tie as tie
 
 abbrev Inv-loop : tie.InvT-loop
 Inv-loop s mask faults words counters₀ low nodes frames agreed₀ i₀ counters agreed i =

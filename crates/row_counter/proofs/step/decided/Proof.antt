@@ -1,12 +1,12 @@
--- `row_vote::step::decided` meets its contract: with no bad node all words are good ones'.
+-- `row_counter::step::decided` meets its contract: with no bad node all words are good ones'.
 use mathlib.Core.Path.{_∙_}
 use lib.ListN.{getD}
 use borrow.Author.Needs.{needs}
 use Rattle.ballot.proofs.PackedLaws.{packed-majority}
-use Rattle.row_vote.specs.Code.{goodOnly}
-use Rattle.row_vote.proofs.HeardLaws.{good-alone}
-use Rattle.row_vote.proofs.step.decided.Statement.{statement}
-use Rattle.row_vote.proofs.step.decided.Tie as tie
+use Rattle.row_counter.specs.Code.{goodOnly}
+use Rattle.row_counter.proofs.HeardLaws.{good-alone}
+use Rattle.row_counter.proofs.step.decided.Statement.{statement}
+use Rattle.row_counter.proofs.step.decided.Tie as tie
 
 returns : tie.Need-returns
 returns c =

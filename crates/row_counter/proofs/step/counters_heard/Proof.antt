@@ -1,4 +1,4 @@
--- `row_vote::step::counters_heard` meets its contract: the loop has read what is heard of the first j nodes.
+-- `row_counter::step::counters_heard` meets its contract: the loop has read what is heard of the first j nodes.
 use mathlib.Core.Path.{_≡_, sym, ap, _∙_}
 use mathlib.Core.Logic.{⊎-elim}
 use Prim.Native.Nat.{_-_, _≤_, _<_}
@@ -9,10 +9,10 @@ use Rattle.plan.specs.Limits.{mostNodes}
 use Rattle.ballot.specs.Code.{Told}
 use Rattle.ballot.proofs.BinLaws.{told-none, told-next}
 use Rattle.system.proofs.FaultLaws.{message-room}
-use Rattle.row_vote.specs.Code.{heardCounter}
-use Rattle.row_vote.proofs.HeardLaws.{heard-bad, heard-good}
-use Rattle.row_vote.proofs.step.counters_heard.Statement.{statement}
-use Rattle.row_vote.proofs.step.counters_heard.Tie as tie
+use Rattle.row_counter.specs.Code.{heardCounter}
+use Rattle.row_counter.proofs.HeardLaws.{heard-bad, heard-good}
+use Rattle.row_counter.proofs.step.counters_heard.Statement.{statement}
+use Rattle.row_counter.proofs.step.counters_heard.Tie as tie
 
 abbrev Inv-loop : tie.InvT-loop
 Inv-loop s mask faults i words nodes all₀ j₀ all j =

@@ -1,4 +1,4 @@
--- `row_vote::step::good_holders` meets its contract: with no bad node all words are good ones', else those of the first j nodes are counted.
+-- `row_counter::step::good_holders` meets its contract: with no bad node all words are good ones', else those of the first j nodes are counted.
 use mathlib.Core.Path.{_≡_, ap, _∙_}
 use mathlib.Core.Logic.{⊎-elim}
 use Prim.Native.Nat.{ℕ, _-_, _≤_}
@@ -7,10 +7,10 @@ use lib.ListN.{getD}
 use borrow.Author.Needs.{needs}
 use Rattle.ballot.specs.Majority.{holders}
 use Rattle.ballot.proofs.ScanLaws.{holders-none}
-use Rattle.row_vote.specs.Code.{goodOnly}
-use Rattle.row_vote.proofs.HeardLaws.{holders-alone, good-counted, good-passed}
-use Rattle.row_vote.proofs.step.good_holders.Statement.{statement}
-use Rattle.row_vote.proofs.step.good_holders.Tie as tie
+use Rattle.row_counter.specs.Code.{goodOnly}
+use Rattle.row_counter.proofs.HeardLaws.{holders-alone, good-counted, good-passed}
+use Rattle.row_counter.proofs.step.good_holders.Statement.{statement}
+use Rattle.row_counter.proofs.step.good_holders.Tie as tie
 
 abbrev Inv-loop : tie.InvT-loop
 Inv-loop words nodes mask x held₀ j₀ held j = (j ≤ nodes) × (held ≤ j) × (held ≡ holders (goodOnly mask (λ k. getD words k 0)) j x)

@@ -1,4 +1,4 @@
--- `row_vote::step::counter_agreed` meets its contract: of the first i nodes the good ones have counted, and none can bring the least below the good holders.
+-- `row_counter::step::counter_agreed` meets its contract: of the first i nodes the good ones have counted, and none can bring the least below the good holders.
 use mathlib.Core.Path.{_≡_, _∙_, ap}
 use mathlib.Core.Logic.{⊎-elim}
 use mathlib.Core.Option.{Option}
@@ -12,11 +12,11 @@ use Rattle.ballot.specs.Majority.{holders}
 use Rattle.ballot.proofs.BinLaws.{told-holders}
 use Rattle.memory.specs.Node.{counterFrom}
 use Rattle.system.specs.Fault.{faultMessageAt}
-use Rattle.row_vote.specs.Code.{isGood, heardCounter}
-use Rattle.row_vote.proofs.HeardLaws.{good-if}
-use Rattle.row_vote.proofs.AgreementLaws.{low-reached, low-alone}
-use Rattle.row_vote.proofs.step.counter_agreed.Statement.{statement}
-use Rattle.row_vote.proofs.step.counter_agreed.Tie as tie
+use Rattle.row_counter.specs.Code.{isGood, heardCounter}
+use Rattle.row_counter.proofs.HeardLaws.{good-if}
+use Rattle.row_counter.proofs.AgreementLaws.{low-reached, low-alone}
+use Rattle.row_counter.proofs.step.counter_agreed.Statement.{statement}
+use Rattle.row_counter.proofs.step.counter_agreed.Tie as tie
 
 abbrev Inv-loop : tie.InvT-loop
 Inv-loop s mask faults words x low nodes held agreed₀ i₀ agreed i =

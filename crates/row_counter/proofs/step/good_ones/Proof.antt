@@ -1,4 +1,4 @@
--- `row_vote::step::good_ones` meets its contract: the first k are the words of the good ones among the first j nodes.
+-- `row_counter::step::good_ones` meets its contract: the first k are the words of the good ones among the first j nodes.
 use mathlib.Core.Path.{_≡_, ap, _∙_}
 use mathlib.Core.Logic.{⊎-elim}
 use mathlib.Core.Option.{Option}
@@ -8,10 +8,10 @@ use lib.ListN.{length, getD, length-set}
 use borrow.Author.Needs.{needs}
 use Rattle.plan.specs.Limits.{mostNodes}
 use Rattle.ballot.proofs.PackedLaws.{Packed, packed-none, packed-held, packed-silent}
-use Rattle.row_vote.specs.Code.{goodOnly}
-use Rattle.row_vote.proofs.HeardLaws.{good-if, good-none, good-some}
-use Rattle.row_vote.proofs.step.good_ones.Statement.{statement}
-use Rattle.row_vote.proofs.step.good_ones.Tie as tie
+use Rattle.row_counter.specs.Code.{goodOnly}
+use Rattle.row_counter.proofs.HeardLaws.{good-if, good-none, good-some}
+use Rattle.row_counter.proofs.step.good_ones.Statement.{statement}
+use Rattle.row_counter.proofs.step.good_ones.Tie as tie
 
 abbrev Inv-loop : tie.InvT-loop
 Inv-loop words nodes mask good₀ k₀ j₀ good k j =

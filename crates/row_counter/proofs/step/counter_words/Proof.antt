@@ -1,4 +1,4 @@
--- `row_vote::step::counter_words` meets its contract: the first j words are read.
+-- `row_counter::step::counter_words` meets its contract: the first j words are read.
 use mathlib.Core.Path.{_≡_, sym, ap, _∙_}
 use mathlib.Core.Option.{Option, some}
 use Prim.Native.Nat.{ℕ, suc, _-_, _≤_}
@@ -10,8 +10,8 @@ use borrow.Author.Needs.{needs}
 use Rattle.plan.specs.Limits.{mostNodes}
 use Rattle.ballot.specs.Code.{Told}
 use Rattle.ballot.proofs.BinLaws.{told-next, told-to}
-use Rattle.row_vote.proofs.step.counter_words.Statement.{statement}
-use Rattle.row_vote.proofs.step.counter_words.Tie as tie
+use Rattle.row_counter.proofs.step.counter_words.Statement.{statement}
+use Rattle.row_counter.proofs.step.counter_words.Tie as tie
 
 abbrev Inv-loop : tie.InvT-loop
 Inv-loop counters nodes words₀ j₀ words j = (j ≤ nodes) × (length words ≡ mostNodes) × Told (λ i. some (getD counters (suc i) 0)) j words

@@ -1,10 +1,10 @@
--- `row_vote::step::vote_counter` meets its contract: one way out for each case of what is decided.
+-- `row_counter::step::vote_counter` meets its contract: one way out for each case of what is decided.
 use mathlib.Core.Path.{refl, ap}
 use borrow.Author.Needs.{needs}
 use Rattle.ballot.specs.Majority.{votedValue}
-use Rattle.row_vote.proofs.DecideLaws.{counter-each, counter-none, counter-below, counter-above}
-use Rattle.row_vote.proofs.step.vote_counter.Statement.{statement}
-use Rattle.row_vote.proofs.step.vote_counter.Tie as tie
+use Rattle.row_counter.proofs.DecideLaws.{counter-each, counter-none, counter-below, counter-above}
+use Rattle.row_counter.proofs.step.vote_counter.Statement.{statement}
+use Rattle.row_counter.proofs.step.vote_counter.Tie as tie
 
 returns : tie.Need-returns
 returns c =
