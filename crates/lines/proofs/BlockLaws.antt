@@ -19,15 +19,15 @@ use Rattle.answer.specs.Refusal.{numberOf}
 use Rattle.plan.specs.declared.Plan.{Plan}
 use Rattle.memory.specs.declared.Memory.{Memory}
 use Rattle.system.specs.declared.System.{System}
-use Rattle.lines.specs.Line.{runLineSize, printedSize, runNumbers, refusalLine, refusalSize}
-use Rattle.lines.specs.Listing.{mostRunLines, isSome, systemNext, singleAfter, frameLine, readLine, systemAt, singleAt, frames, printed, lineLeft, runListing}
+use Rattle.run_line.specs.Line.{runLineSize, printedSize, runNumbers, refusalLine, refusalSize}
+use Rattle.run_line.specs.Listing.{mostRunLines, isSome, systemNext, singleAfter, frameLine, readLine, systemAt, singleAt, frames, printed, lineLeft, runListing}
+use Rattle.run_line.proofs.WritingLaws.{placed-whole, refusal-length}
 use Rattle.lines.specs.declared.Run.{Run}
 use Rattle.lines.specs.declared.Printed.{Printed}
 use Rattle.lines.specs.Code.{blockLines, linesAnswer, linesPlace}
 use Rattle.lines.specs.Blocks.{joinedBlocks, WholeBlocks, nothing, last, next, blockListing, blocksListing, LaidBlock}
 use Rattle.lines.proofs.StepLaws.{cond-same, empty-of-length, nothing-read}
 use Rattle.lines.proofs.RunLaws.{leading-is, frames-fit, printedTo, printed-length, lines-most, lines-length}
-use Rattle.lines.proofs.WritingLaws.{placed-whole, refusal-length}
 use Rattle.lines.proofs.NextLaws.{system-none, single-none, system-next, single-next, frames-next, left-next, printed-front, run-next}
 
 -- ---- a run whose first line is not run

@@ -1,5 +1,3 @@
-pub mod ReadingLaws
-pub mod WritingLaws
 pub mod StepLaws
 pub mod RunLaws
 pub mod RowsLaws

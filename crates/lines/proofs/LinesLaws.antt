@@ -20,10 +20,10 @@ use Rattle.system.specs.declared.System.{System}
 use Rattle.system.specs.Fault.{faultsSize}
 use Rattle.faults.specs.Code.{Held}
 use Rattle.rows.specs.Code.{rowCount, wordCount, memoryIn, Rows}
+use Rattle.run_line.specs.Line.{runLineSize, printedSize}
+use Rattle.run_line.specs.Listing.{mostRunLines, lineNumbers, systemNext, singleAfter, readLine, readNumbers, systemAt, singleAt, frames}
 use Rattle.lines.specs.declared.Run.{Run}
 use Rattle.lines.specs.declared.Printed.{Printed}
-use Rattle.lines.specs.Line.{runLineSize, printedSize}
-use Rattle.lines.specs.Listing.{mostRunLines, lineNumbers, systemNext, singleAfter, readLine, readNumbers, systemAt, singleAt, frames}
 use Rattle.lines.specs.Code.{blockLines, stepAnswer, stepPlace, LineMade, printedWith, linesAnswer, linesPlace}
 use Rattle.lines.proofs.StepLaws.{line-early}
 use Rattle.lines.proofs.RunLaws.{lineBytes, Ran, ran-none, ran-more, ran-ended, numbers-are, frames-are, standing-refused, standing-ended, place-is, block-room, one-more, line-bytes}

@@ -16,9 +16,9 @@ use Rattle.answer.specs.declared.Answer.the-variants.{RunLine}
 use Rattle.plan.specs.declared.Plan.{Plan}
 use Rattle.memory.specs.declared.Memory.{Memory}
 use Rattle.system.specs.declared.System.{System}
-use Rattle.lines.specs.Line.{runLineSize, runNumbers, refusalLine}
-use Rattle.lines.specs.Listing.{mostRunLines, leading, isSome, systemNext, singleAfter, frameLine, readLine, readNumbers, systemAt, singleAt, printedAt, frames, printed, lineLeft, runListing}
-use Rattle.lines.proofs.WritingLaws.{joined-front}
+use Rattle.run_line.specs.Line.{runLineSize, runNumbers, refusalLine}
+use Rattle.run_line.specs.Listing.{mostRunLines, leading, isSome, systemNext, singleAfter, frameLine, readLine, readNumbers, systemAt, singleAt, printedAt, frames, printed, lineLeft, runListing}
+use Rattle.run_line.proofs.WritingLaws.{joined-front}
 
 -- ---- how many lines stand before the first that fails, one line on
 

@@ -25,12 +25,13 @@ use Rattle.faults.specs.Code.{BadHold}
 use Rattle.faults.proofs.LayoutLaws.{held-fills}
 use Rattle.rows.specs.Code.{memoryIn, Rows, sameRow}
 use Rattle.rows.proofs.RowLaws.{equal-is}
+use Rattle.run_line.specs.declared.step.LineRead.{LineRead}
+use Rattle.run_line.specs.declared.step.LineRead.the-variants.{Whole}
+use Rattle.run_line.specs.Line.{printedWidths}
+use Rattle.run_line.specs.Listing.{lineNumbers, faultBytes, systemNext, singleAfter, planeValues, agreement, working, equal, frameLine}
+use Rattle.run_line.specs.Code.{lineRead}
 use Rattle.lines.specs.declared.step.Stepped.{Stepped}
-use Rattle.lines.specs.declared.step.LineRead.{LineRead}
-use Rattle.lines.specs.declared.step.LineRead.the-variants.{Whole}
-use Rattle.lines.specs.Line.{printedWidths}
-use Rattle.lines.specs.Listing.{lineNumbers, faultBytes, systemNext, singleAfter, planeValues, agreement, working, equal, frameLine}
-use Rattle.lines.specs.Code.{stepAnswer, stepPlace, OfLine, LineMade, lineRead}
+use Rattle.lines.specs.Code.{stepAnswer, stepPlace, OfLine, LineMade}
 use Rattle.lines.proofs.StepLaws.{line-early, line-in-time, planes-lent, Within, numbers-within, take-fits}
 
 -- ---- a frame and its line

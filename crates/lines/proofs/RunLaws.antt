@@ -21,13 +21,13 @@ use Rattle.answer.specs.Refusal.{numberOf}
 use Rattle.plan.specs.declared.Plan.{Plan}
 use Rattle.memory.specs.declared.Memory.{Memory}
 use Rattle.system.specs.declared.System.{System}
+use Rattle.run_line.specs.Line.{runLineSize, printedSize}
+use Rattle.run_line.specs.Listing.{mostRunLines, leading, isSome, lineNumbers, frameLine, readLine, readNumbers, systemAt, singleAt, printedAt, frames, printed, lineLeft}
+use Rattle.run_line.proofs.WritingLaws.{frame-length}
 use Rattle.lines.specs.declared.Printed.{Printed}
 use Rattle.lines.specs.declared.Run.{Run}
-use Rattle.lines.specs.Line.{runLineSize, printedSize}
-use Rattle.lines.specs.Listing.{mostRunLines, leading, isSome, lineNumbers, frameLine, readLine, readNumbers, systemAt, singleAt, printedAt, frames, printed, lineLeft}
 use Rattle.lines.specs.Code.{blockLines, printedWith, framesLeft, linesAnswer, linesPlace}
 use Rattle.lines.proofs.StepLaws.{part-taken, take-fits, numbers-size, nothing-read, line-early, line-in-time}
-use Rattle.lines.proofs.WritingLaws.{frame-length}
 
 -- ---- how many lines stand before the first that fails
 

@@ -22,11 +22,11 @@ use Rattle.ballot.specs.Plane.{plane}
 use Rattle.memory.specs.declared.Memory.{Memory}
 use Rattle.system.specs.declared.System.{System}
 use Rattle.system.specs.Frame.{putOut, placeAfter}
+use Rattle.run_line.specs.Line.{patternWidth, runWidths, runLineSize, maskIn, fillIn, inLimits, runNumbers}
+use Rattle.run_line.specs.Listing.{mostRunLines, lineNumbers}
+use Rattle.run_line.proofs.ReadingLaws.{length-bad}
+use Rattle.run_line.proofs.WritingLaws.{total-of-columns}
 use Rattle.lines.specs.declared.step.Stepped.{Stepped}
-use Rattle.lines.specs.Line.{patternWidth, runWidths, runLineSize, maskIn, fillIn, inLimits, runNumbers}
-use Rattle.lines.specs.Listing.{mostRunLines, lineNumbers}
-use Rattle.lines.proofs.ReadingLaws.{length-bad}
-use Rattle.lines.proofs.WritingLaws.{total-of-columns}
 use Rattle.lines.specs.Code.{stepAnswer}
 
 -- ---- the plane values

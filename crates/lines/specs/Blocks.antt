@@ -7,8 +7,8 @@ use Prim.Native.Nat.{ℕ, _*_, _≤_}
 use lib.Dec.{eqb}
 use lib.ListN.{length, take}
 use Rattle.answer.specs.Refusal.{numberOf}
+use Rattle.run_line.specs.Listing.{runListing}
 use Rattle.lines.specs.declared.Run.{Run}
-use Rattle.lines.specs.Listing.{runListing}
 use Rattle.lines.specs.Code.{linesAnswer}
 
 unfoldable pub joinedBlocks : List (List ℕ) → List ℕ

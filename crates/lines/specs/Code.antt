@@ -1,7 +1,7 @@
--- The code's own: what its enums and structs say, and what its steps give. No definition of document 01 cites these but those of Blocks.antt, which follow the program.
+-- The code's own: what its structs say, and what its steps give. No definition of document 01 cites these but those of Blocks.antt, which follow the program.
 use mathlib.Core.Path.{_≡_}
 use mathlib.Core.Bool.{Bool, true, false, cond}
-use mathlib.Core.List.{List, _∷_, _++_}
+use mathlib.Core.List.{List, _++_}
 use mathlib.Core.Option.{Option, none, some}
 use Prim.Native.Nat.{ℕ, _+_, _*_, min}
 use lib.ListN.{length, drop}
@@ -11,24 +11,12 @@ use Rattle.plan.specs.declared.Plan.{Plan}
 use Rattle.memory.specs.declared.Memory.{Memory}
 use Rattle.system.specs.declared.System.{System}
 use Rattle.rows.specs.Code.{memoryIn, Rows}
+use Rattle.run_line.specs.Line.{printedSize}
+use Rattle.run_line.specs.Listing.{mostRunLines, lineNumbers, systemNext, singleAfter, frameLine, systemAt, singleAt, frames, printed, lineLeft}
 use Rattle.lines.specs.declared.Run.{Run}
 use Rattle.lines.specs.declared.Printed.{Printed}
 use Rattle.lines.specs.declared.step.Stepped.{Stepped}
-use Rattle.lines.specs.declared.step.LineRead.{LineRead}
-use Rattle.lines.specs.declared.step.LineRead.the-variants.{Whole, Refused}
-use Rattle.lines.specs.Line.{printedSize}
-use Rattle.lines.specs.Listing.{mostRunLines, lineNumbers, systemNext, singleAfter, frameLine, systemAt, singleAt, frames, printed, lineLeft}
 use Rattle.lines.specs.Run.{runAfter, nextNumbers}
-
--- ---- a run line that is read
-
-abbrev pub ifRead : Bool → List ℕ → Option (List ℕ)
-ifRead true vs = some vs
-ifRead false vs = none
-
-abbrev pub lineRead : LineRead → List ℕ → Option (List ℕ)
-lineRead (Whole mask fill) vs = some (mask ∷ fill ∷ vs)
-lineRead Refused vs = none
 
 -- ---- one line
 

@@ -1,5 +1,3 @@
-pub mod Line
-pub mod Listing
 pub mod Run
 pub mod Code
 pub mod Blocks

@@ -4,9 +4,9 @@ use mathlib.Core.Option.{Option}
 use Prim.Native.Nat.{ℕ, _+_}
 use lib.ListN.{take}
 use Rattle.plan.specs.Known.{period}
+use Rattle.run_line.specs.Line.{runLineSize}
+use Rattle.run_line.specs.Listing.{lineNumbers, systemNext, singleAfter}
 use Rattle.lines.specs.declared.Run.{Run}
-use Rattle.lines.specs.Line.{runLineSize}
-use Rattle.lines.specs.Listing.{lineNumbers, systemNext, singleAfter}
 
 -- the state after a frame from the line's numbers l. The period handed in counts for nothing: it is the plan's.
 unfoldable pub runAfter : Run → List ℕ → Run

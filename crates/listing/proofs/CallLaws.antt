@@ -37,15 +37,15 @@ use Rattle.system.specs.System as power
 use Rattle.system.specs.Frame.{countsOk}
 use Rattle.lines.specs.declared.Run.{Run}
 use Rattle.listing.specs.declared.Started.{Started}
+use Rattle.run_line.specs.Line.{runLineSize, printedSize, refusalLine, refusalSize}
+use Rattle.run_line.specs.Listing.{mostRunLines, isSome, lineNumbers, frameLine}
 use Rattle.lines.specs.declared.Printed.{Printed}
 use Rattle.lines.specs.declared.step.Stepped.{Stepped}
-use Rattle.lines.specs.Line.{runLineSize, printedSize, refusalLine, refusalSize}
-use Rattle.lines.specs.Listing.{mostRunLines, isSome, lineNumbers, frameLine}
 use Rattle.lines.specs.Run.{runAfter, nextNumbers}
 use Rattle.listing.specs.Answers.{zeroRun, startOf, startAnswer, lineTest, nextTests, taken, runTaken, nextAnswer, placeTaken, nextPlace, refusalTests, refusalWritten, refusalPlace}
+use Rattle.run_line.proofs.WritingLaws.{frame-length}
 use Rattle.lines.specs.Code.{stepAnswer, stepPlace, takenOr, lineTaken}
 use Rattle.lines.proofs.StepLaws.{empty-of-length, nothing-numbers, taken-none, taken-some, line-in-time}
-use Rattle.lines.proofs.WritingLaws.{frame-length}
 
 -- ---- the line of a refusal
 

@@ -24,9 +24,9 @@ use Rattle.node.specs.Answers.{lengthTests}
 use Rattle.system.specs.declared.System.{System}
 use Rattle.system.specs.System.{powerOn}
 use Rattle.system.specs.Frame.{maskOk, countsOk, lengthsOk, frameTests, singleTests, workingTests, equalTests}
+use Rattle.run_line.specs.Line.{printedSize, refusalLine}
+use Rattle.run_line.specs.Listing.{runListing, listing}
 use Rattle.lines.specs.declared.Run.{Run}
-use Rattle.lines.specs.Line.{printedSize, refusalLine}
-use Rattle.lines.specs.Listing.{runListing, listing}
 use Rattle.listing.specs.Answers.{zeroRun, startOf, startAnswer, lineTest, nextTests}
 
 -- ---- records

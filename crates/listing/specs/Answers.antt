@@ -20,9 +20,9 @@ use Rattle.system.specs.System.{zeroSystem, powerOn}
 use Rattle.system.specs.Frame.{countsOk}
 use Rattle.lines.specs.declared.Run.{Run}
 use Rattle.listing.specs.declared.Started.{Started}
+use Rattle.run_line.specs.Line.{printedSize, refusalLine, refusalSize}
+use Rattle.run_line.specs.Listing.{mostRunLines, isSome, frameLine}
 use Rattle.lines.specs.declared.Printed.{Printed}
-use Rattle.lines.specs.Line.{printedSize, refusalLine, refusalSize}
-use Rattle.lines.specs.Listing.{mostRunLines, isSome, frameLine}
 use Rattle.lines.specs.Run.{runAfter, nextNumbers}
 
 -- ---- start

@@ -5,10 +5,10 @@ use mathlib.Core.List.{List, [], _++_}
 use Prim.Native.Nat.{ℕ, zero, suc}
 use lib.Dec.{eqb}
 use lib.ListN.{take, drop, replicate}
+use Rattle.run_line.specs.Line.{runLineSize, printedSize, refusalLine}
+use Rattle.run_line.specs.Listing.{mostRunLines}
 use Rattle.lines.specs.declared.Run.{Run}
 use Rattle.lines.specs.declared.Printed.{Printed}
-use Rattle.lines.specs.Line.{runLineSize, printedSize, refusalLine}
-use Rattle.lines.specs.Listing.{mostRunLines}
 use Rattle.lines.specs.Blocks.{blocksListing}
 use Rattle.listing.specs.Answers.{startAnswer, nextAnswer, nextPlace, isDone}
 

@@ -1,4 +1,4 @@
-// The run listing: start from a plan text, the next line of a run, a refusal's line. Each call answers any state; the steps under them are in `lines`.
+// The run listing: start from a plan text, the next line of a run, a refusal's line. Each call answers any state; the steps under them are in `run_line` and `lines`.
 ghost use mathlib.Core.Path.{_≡_};
 ghost use mathlib.Core.Bool.{true};
 ghost use Prim.Native.Nat.{_+_, min};
@@ -6,8 +6,8 @@ ghost use lib.ListN.{length};
 ghost use Rattle.answer.specs.declared.Answer.the-variants.{RunLine};
 ghost use Rattle.plan.specs.Known.{period as periodOf};
 ghost use Rattle.plan.specs.Accepted.{accepted};
-ghost use Rattle.lines.specs.Line.{printedSize};
-ghost use Rattle.lines.specs.Listing.{mostRunLines};
+ghost use Rattle.run_line.specs.Line.{printedSize};
+ghost use Rattle.run_line.specs.Listing.{mostRunLines};
 ghost use Rattle.lines.specs.Run.{nextNumbers};
 ghost use Rattle.listing.specs.Answers.{startAnswer, placeTaken, nextAnswer, nextPlace, refusalWritten, refusalPlace};
 ghost use Rattle.lines.specs.Code.{lineTaken};
@@ -61,10 +61,10 @@ fn nothing(answer: Answer, run: Run) -> Printed
 fn refused_line(frame: usize) -> Answer
     ensures { λ r. ⌜ r ≡ RunLine (min frame mostRunLines + 1) ⌝ }
 {
-    if frame < lines::step::LINES {
+    if frame < run_line::step::LINES {
         return Answer::RunLine(frame + 1);
     }
-    Answer::RunLine(lines::step::LINES + 1)
+    Answer::RunLine(run_line::step::LINES + 1)
 }
 
 // The next line of what is left, by a state that 7 and 9 do not refuse.
@@ -76,7 +76,7 @@ fn next_line(run: Run, period: usize, rest: &[u8], out: &mut [u8]) -> Printed
     let system = run.system;
     let single = run.single;
     let frame = run.frame;
-    let size = lines::step::line_size(plan.sensors);
+    let size = run_line::step::line_size(plan.sensors);
     let end = lines::step::part_end(0, rest.len(), size);
     let s = lines::step::line(plan, period, system, single, frame, &rest[0..end], out);
     if !s.taken {
@@ -111,7 +111,7 @@ pub fn next(run: Run, rest: &[u8], out: &mut [u8]) -> Printed
     if !counts::step::counts_ok(&system.good, nodes, period) {
         return nothing(Answer::MaskOrCount, run);
     }
-    let size = lines::step::printed_size(plan.actuators);
+    let size = run_line::step::printed_size(plan.actuators);
     if out.len() < size {
         return nothing(Answer::WrongLength, run);
     }
@@ -125,7 +125,7 @@ pub fn next(run: Run, rest: &[u8], out: &mut [u8]) -> Printed
 pub fn refusal(answer: Answer, out: &mut [u8]) -> TextWritten
     ensures { λ r. ⌜ (r ≡ refusalWritten answer (length (now (out .entry)))) × (now (out .exit) ≡ refusalPlace answer (now (out .entry))) ⌝ }
 {
-    if out.len() < lines::step::REFUSAL {
+    if out.len() < run_line::step::REFUSAL {
         return TextWritten {
             answer: Answer::WrongLength,
             count: 0,
@@ -137,9 +137,9 @@ pub fn refusal(answer: Answer, out: &mut [u8]) -> TextWritten
             count: 0,
         };
     }
-    lines::step::write_refusal(out, answer);
+    run_line::step::write_refusal(out, answer);
     TextWritten {
         answer: Answer::Done,
-        count: lines::step::REFUSAL,
+        count: run_line::step::REFUSAL,
     }
 }

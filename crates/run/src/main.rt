@@ -12,8 +12,8 @@ ghost use Rattle.plan.specs.Limits.{mostNodes};
 ghost use Rattle.plan.specs.Sizes.{sizesOf};
 ghost use Rattle.system.specs.Fault.{faultsSize};
 ghost use Rattle.faults.specs.Code.{Held};
-ghost use Rattle.lines.specs.Line.{runLineSize, printedSize, refusalSize};
-ghost use Rattle.lines.specs.Listing.{mostRunLines};
+ghost use Rattle.run_line.specs.Line.{runLineSize, printedSize, refusalSize};
+ghost use Rattle.run_line.specs.Listing.{mostRunLines};
 ghost use Rattle.lines.specs.Code.{blockLines, linesAnswer};
 ghost use Rattle.lines.specs.Blocks.{LaidBlock};
 use answer::Answer;
@@ -25,13 +25,13 @@ use system::System;
 // The longest block of run lines, and of printed ones with the line of a refusal.
 const INPUT: usize = lines::step::BLOCK * 329;
 
-const OUTPUT: usize = lines::step::BLOCK * 181 + lines::step::REFUSAL;
+const OUTPUT: usize = lines::step::BLOCK * 181 + run_line::step::REFUSAL;
 
 // More than the longest plan text, so that a longer file is seen to be too long.
 const TEXT: usize = plan_line::Line::TEXT + 1;
 
 fn print_refusal(answer: Answer) {
-    let mut line = [0u8; lines::step::REFUSAL];
+    let mut line = [0u8; run_line::step::REFUSAL];
     listing::refusal(answer, &mut line);
     io::write_all(STDOUT_FILENO, &line);
 }
@@ -58,8 +58,8 @@ fn listed(
             run: next,
         };
     }
-    let end = count + lines::step::REFUSAL;
-    lines::step::write_refusal(&mut out[count..end], answer);
+    let end = count + run_line::step::REFUSAL;
+    run_line::step::write_refusal(&mut out[count..end], answer);
     Printed {
         answer: answer,
         count: end,
@@ -106,7 +106,7 @@ fn block(
 fn follow(file: i32, start: Run)
     requires { ⌜ (accepted (start .plan) ≡ true) × (start .period ≡ periodOf (start .plan)) × (start .frame ≤ mostRunLines) ⌝ }
 {
-    let size = lines::step::BLOCK * lines::step::line_size(start.plan.sensors);
+    let size = lines::step::BLOCK * run_line::step::line_size(start.plan.sensors);
     let bytes = faults::step::size(plan::sizes_with(start.plan, start.period));
     let mut run = start;
     let mut input = [0u8; INPUT];

@@ -5,7 +5,7 @@ use native.Mathlib.Omega.{arith}
 use lib.ListN.{length, take}
 use borrow.Author.Tests.{not-true, not-false}
 use Rattle.plan.proofs.AcceptedLaws.{shape-of-accepted}
-use Rattle.lines.specs.Line.{runLineSize}
+use Rattle.run_line.specs.Line.{runLineSize}
 use Rattle.lines.proofs.StepLaws.{first-line}
 use Rattle.listing.proofs.CallLaws.{line-refused, line-in-range, line-done}
 use borrow.Author.Needs.{needs}

@@ -1,6 +1,6 @@
 -- `listing::refusal` meets its contract: an answer for each way out.
 use mathlib.Core.Path.{sym, _∙_}
-use Rattle.lines.proofs.WritingLaws.{refusal-length}
+use Rattle.run_line.proofs.WritingLaws.{refusal-length}
 use Rattle.listing.proofs.CallLaws.{refusal-short, refusal-none, refusal-written}
 use borrow.Author.Needs.{needs}
 use Rattle.listing.proofs.refusal.Statement.{statement}

@@ -9,8 +9,8 @@ use lib.ListN.{length, take, length-take}
 use borrow.Author.Needs.{needs}
 use Rattle.answer.specs.declared.Answer.{Answer}
 use Rattle.answer.specs.Refusal.{numberOf}
+use Rattle.run_line.specs.Line.{runLineSize}
 use Rattle.lines.specs.declared.Run.{Run}
-use Rattle.lines.specs.Line.{runLineSize}
 use Rattle.lines.specs.Code.{blockLines, linesAnswer}
 use Rattle.lines.specs.Blocks.{LaidBlock}
 use Rattle.run.proofs.block.Statement.{statement}

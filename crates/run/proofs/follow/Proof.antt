@@ -21,7 +21,7 @@ use Rattle.plan.proofs.AcceptedLaws.{shape-of-accepted}
 use Rattle.system.specs.Fault.{faultsSize}
 use Rattle.faults.specs.Code.{Small, Held}
 use Rattle.faults.proofs.LayoutLaws.{small-of-shape, most-enough, held-zero}
-use Rattle.lines.specs.Listing.{mostRunLines}
+use Rattle.run_line.specs.Listing.{mostRunLines}
 use Rattle.lines.specs.declared.Run.{Run}
 use Rattle.lines.specs.Code.{linesAnswer}
 use Rattle.lines.specs.Blocks.{LaidBlock}

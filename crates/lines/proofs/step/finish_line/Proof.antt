@@ -8,8 +8,8 @@ use Rattle.plan.specs.declared.Sizes.{Sizes}
 use Rattle.plan.specs.Limits.{mostActuators}
 use Rattle.plan.proofs.AcceptedLaws.{shape-of-accepted}
 use Rattle.row_frame.proofs.FrameLaws.{sizes-small}
-use Rattle.lines.specs.Line.{printedSize}
-use Rattle.lines.specs.Listing.{singleAfter}
+use Rattle.run_line.specs.Line.{printedSize}
+use Rattle.run_line.specs.Listing.{singleAfter}
 use Rattle.lines.proofs.StepLaws.{front-length, front-fits}
 use Rattle.lines.proofs.RowsLaws.{rows-next, planes-read, agreement-is, working-is, same-rows, line-is}
 use Rattle.lines.proofs.step.finish_line.Statement.{statement}

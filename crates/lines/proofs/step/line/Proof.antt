@@ -8,7 +8,7 @@ use Rattle.plan.proofs.AcceptedLaws.{shape-of-accepted}
 use Rattle.system.specs.Fault.{faultsSize}
 use Rattle.faults.proofs.LayoutLaws.{most-enough, held-zero}
 use Rattle.row_frame.proofs.FrameLaws.{sizes-small}
-use Rattle.lines.specs.Listing.{lineNumbers}
+use Rattle.run_line.specs.Listing.{lineNumbers}
 use Rattle.lines.proofs.StepLaws.{front-length}
 use Rattle.lines.proofs.RowsLaws.{sizes-are, step-made}
 use Rattle.lines.proofs.step.line.Statement.{statement}

@@ -9,8 +9,8 @@ use Rattle.array.proofs.PlacesLaws.{fill-length}
 use Rattle.faults.specs.Code.{BadHold}
 use Rattle.faults.proofs.LayoutLaws.{parts-all, held-bad}
 use Rattle.row_frame.proofs.FrameLaws.{sizes-small}
-use Rattle.lines.specs.declared.step.LineRead.{LineRead}
-use Rattle.lines.specs.Code.{lineRead}
+use Rattle.run_line.specs.declared.step.LineRead.{LineRead}
+use Rattle.run_line.specs.Code.{lineRead}
 use Rattle.lines.proofs.RowsLaws.{read-numbers, read-within, read-fits, made-refused, made-run}
 use Rattle.lines.proofs.step.line_on_rows.Statement.{statement}
 use Rattle.lines.proofs.step.line_on_rows.Tie as tie

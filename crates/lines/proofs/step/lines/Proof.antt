@@ -11,8 +11,8 @@ use Rattle.plan.specs.declared.Sizes.{Sizes}
 use Rattle.plan.proofs.AcceptedLaws.{shape-of-accepted}
 use Rattle.system.specs.Fault.{faultsSize}
 use Rattle.faults.specs.Code.{Held}
-use Rattle.lines.specs.Line.{runLineSize, printedSize}
-use Rattle.lines.specs.Listing.{lineNumbers}
+use Rattle.run_line.specs.Line.{runLineSize, printedSize}
+use Rattle.run_line.specs.Listing.{lineNumbers}
 use Rattle.lines.proofs.RowsLaws.{sizes-are}
 use Rattle.lines.proofs.LinesLaws.{going-none, Between, line-room, place-lent, line-refused, line-run, lines-ended}
 use Rattle.lines.proofs.step.lines.Statement.{statement}

@@ -22,7 +22,7 @@ use Rattle.system.specs.System.{powerOn}
 use Rattle.system.specs.Fault.{faultsSize}
 use Rattle.system.specs.Counts.{isWorking}
 use Rattle.system.specs.Frame.{memoryOf, systemAfter, placeAfter, frameAgreement, sameMemory}
-use Rattle.lines.specs.Line.{runLineSize, maskIn, fillIn, patternsIn, runNumbers, printedWidths, refusalLine}
+use Rattle.run_line.specs.Line.{runLineSize, maskIn, fillIn, patternsIn, runNumbers, printedWidths, refusalLine}
 
 -- "10: .. or line 100,001"
 abbrev pub mostRunLines : ℕ

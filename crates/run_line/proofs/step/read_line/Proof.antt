@@ -1,9 +1,9 @@
--- `lines::step::read_line` meets its contract: one law for each way out.
+-- `run_line::step::read_line` meets its contract: one law for each way out.
 use borrow.Author.Needs.{needs}
 use Rattle.column.proofs.RowLaws.{value-read}
-use Rattle.lines.proofs.ReadingLaws.{rest-read, rest-refused, malformed-read, length-bad, end-bad, mask-bad, fill-bad, patterns-bad, mask-large, fill-large, line-whole}
-use Rattle.lines.proofs.step.read_line.Statement.{statement}
-use Rattle.lines.proofs.step.read_line.Tie as tie
+use Rattle.run_line.proofs.ReadingLaws.{rest-read, rest-refused, malformed-read, length-bad, end-bad, mask-bad, fill-bad, patterns-bad, mask-large, fill-large, line-whole}
+use Rattle.run_line.proofs.step.read_line.Statement.{statement}
+use Rattle.run_line.proofs.step.read_line.Tie as tie
 
 returns : tie.Need-returns
 returns c = length-bad _ _ _ (c .if1 .taken)

@@ -1,14 +1,14 @@
--- `lines::step::put_values` meets its contract: the loop has written the first a plane values.
+-- `run_line::step::put_values` meets its contract: the loop has written the first a plane values.
 use mathlib.Core.Path.{_≡_, ap, _∙_}
 use Prim.Native.Nat.{ℕ, _-_, _≤_}
 use native.Mathlib.Omega.{arith}
 use lib.ListN.{getD, length-set}
 use borrow.Author.Needs.{needs}
 use Rattle.array.specs.Place.{placed}
-use Rattle.lines.specs.Line.{planeValuesAt}
-use Rattle.lines.proofs.WritingLaws.{planeColumns, columns-none, columns-size, columns-more, columns-ended}
-use Rattle.lines.proofs.step.put_values.Statement.{statement}
-use Rattle.lines.proofs.step.put_values.Tie as tie
+use Rattle.run_line.specs.Line.{planeValuesAt}
+use Rattle.run_line.proofs.WritingLaws.{planeColumns, columns-none, columns-size, columns-more, columns-ended}
+use Rattle.run_line.proofs.step.put_values.Statement.{statement}
+use Rattle.run_line.proofs.step.put_values.Tie as tie
 
 abbrev Inv-loop : tie.InvT-loop
 Inv-loop out₀ values count agreement a₀ out a = (a ≤ count) × (out ≡ placed out₀ planeValuesAt (planeColumns (λ k. getD values k 0) a))

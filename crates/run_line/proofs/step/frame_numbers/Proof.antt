@@ -1,10 +1,10 @@
--- `lines::step::frame_numbers` meets its contract.
+-- `run_line::step::frame_numbers` meets its contract.
 use mathlib.Core.Path.{_∙_}
 use borrow.Author.Needs.{needs}
 use borrow.Author.Tests.{lt-ltb, le-ltb}
-use Rattle.lines.specs.Listing.{mostRunLines}
-use Rattle.lines.proofs.step.frame_numbers.Statement.{statement}
-use Rattle.lines.proofs.step.frame_numbers.Tie as tie
+use Rattle.run_line.specs.Listing.{mostRunLines}
+use Rattle.run_line.proofs.step.frame_numbers.Statement.{statement}
+use Rattle.run_line.proofs.step.frame_numbers.Tie as tie
 
 returns : tie.Need-returns
 returns c = rw (le-ltb (c .before .before .args .frame) mostRunLines (c .if1 .taken))

@@ -1,9 +1,9 @@
--- `lines::step::write_refusal` meets its contract.
+-- `run_line::step::write_refusal` meets its contract.
 use mathlib.Core.Path.{_∙_}
-use Rattle.lines.proofs.WritingLaws.{refusal-row}
+use Rattle.run_line.proofs.WritingLaws.{refusal-row}
 use borrow.Author.Needs.{needs}
-use Rattle.lines.proofs.step.write_refusal.Statement.{statement}
-use Rattle.lines.proofs.step.write_refusal.Tie as tie
+use Rattle.run_line.proofs.step.write_refusal.Statement.{statement}
+use Rattle.run_line.proofs.step.write_refusal.Tie as tie
 
 same-length : tie.Need-same-length
 same-length c = refusal-row (c .before .before .before .before .before .before .before .before .before .before .before .args .out .now) (c .before .before .before .before .before .before .before .before .before .before .before .args .answer) (c .before .before .before .before .before .before .before .before .before .before .before .pre) (c .before .before .before .before .before .before .before .put .ensures ∙ rw (c .before .before .before .before .before .before .before .before .number .ensures)) (c .before .before .put2 .ensures ∙ rw (c .before .before .before .line .ensures)) .0

@@ -21,8 +21,8 @@ use Rattle.column.proofs.BufferLaws.{laid-none, lay}
 use Rattle.plan.specs.declared.Plan.{Plan}
 use Rattle.memory.specs.declared.Memory.{Memory}
 use Rattle.system.specs.declared.System.{System}
-use Rattle.lines.specs.Listing.{systemNext, planeValues, agreement, working, singleAfter, equal, frameLine}
-use Rattle.lines.specs.Line.{patternWidth, planeValuesAt, agreementAt, agreementWidth, printedWidths, printedSize, refusalLine, refusalSize}
+use Rattle.run_line.specs.Listing.{systemNext, planeValues, agreement, working, singleAfter, equal, frameLine}
+use Rattle.run_line.specs.Line.{patternWidth, planeValuesAt, agreementAt, agreementWidth, printedWidths, printedSize, refusalLine, refusalSize}
 
 -- ---- a column at a place
 

@@ -17,8 +17,8 @@ use Rattle.numeral.specs.declared.Number.{Number}
 use Rattle.numeral.specs.declared.Number.the-variants.{Malformed}
 use Rattle.numeral.specs.Answers.{shown}
 use Rattle.array.proofs.BitLaws.{mask-fits}
-use Rattle.lines.specs.Line.{runWidths, inLimits, runNumbers}
-use Rattle.lines.specs.Code.{ifRead}
+use Rattle.run_line.specs.Line.{runWidths, inLimits, runNumbers}
+use Rattle.run_line.specs.Code.{ifRead}
 
 -- ---- what the code was told
 

@@ -1,16 +1,16 @@
--- `lines::step::read_patterns` meets its contract. The loop's invariant: the first `k` patterns in the array and the rest of the line are the line's.
+-- `run_line::step::read_patterns` meets its contract. The loop's invariant: the first `k` patterns in the array and the rest of the line are the line's.
 use mathlib.Core.Path.{_≡_, ap, _∙_}
 use Prim.Native.Nat.{_+_, _-_, _*_, _≤_, _<_}
 use native.Mathlib.Omega.{arith}
 use lib.ListN.{length}
 use Rattle.plan.specs.Limits.{mostSensors}
 use borrow.Author.Needs.{needs}
-use Rattle.lines.proofs.ReadingLaws.{Front, front-first, front-next, front-bad, front-all, malformed-read}
+use Rattle.run_line.proofs.ReadingLaws.{Front, front-first, front-next, front-bad, front-all, malformed-read}
 use Rattle.column.specs.Column.{numberShown}
 use Rattle.column.proofs.ReadingLaws.{slice-lent}
 use Rattle.column.proofs.RowLaws.{value-read}
-use Rattle.lines.proofs.step.read_patterns.Statement.{statement}
-use Rattle.lines.proofs.step.read_patterns.Tie as tie
+use Rattle.run_line.proofs.step.read_patterns.Statement.{statement}
+use Rattle.run_line.proofs.step.read_patterns.Tie as tie
 
 abbrev Inv-loop : tie.InvT-loop
 Inv-loop line count patterns₀ k₀ patterns k = (length patterns ≡ mostSensors) × (k ≤ count) × Front line count patterns k

@@ -1,8 +1,8 @@
--- `lines::step::put` meets its contract.
+-- `run_line::step::put` meets its contract.
 use borrow.Author.Needs.{needs}
-use Rattle.lines.proofs.WritingLaws.{put-placed}
-use Rattle.lines.proofs.step.put.Statement.{statement}
-use Rattle.lines.proofs.step.put.Tie as tie
+use Rattle.run_line.proofs.WritingLaws.{put-placed}
+use Rattle.run_line.proofs.step.put.Statement.{statement}
+use Rattle.run_line.proofs.step.put.Tie as tie
 
 returns : tie.Need-returns
 returns c =
