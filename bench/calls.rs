@@ -10,6 +10,9 @@ mod frame;
 #[path = "../tests/reference/generate.rs"]
 mod generate;
 #[allow(dead_code)]
+#[path = "../tests/reference/histories.rs"]
+mod histories;
+#[allow(dead_code)]
 #[path = "../tests/calls/library.rs"]
 mod library;
 #[allow(dead_code)]
@@ -25,11 +28,14 @@ mod random;
 use library::*;
 use std::hint::black_box;
 
-const NAMES: [&str; 18] = [
+const NAMES: [&str; 19] = [
     "plan_read", "plan_write", "plan_check", "plan_period", "message_size", "mailbox_size", "faults_size", "text_size",
     "node_power_on", "node_compute", "node_message", "node_vote", "node_setpoints", "single_frame",
-    "system_power_on", "system_frame", "system_working", "system_equal",
+    "system_power_on", "system_frame", "system_working", "system_equal", "plan_histories",
 ];
+
+/// The frames of a history, the most that are listed.
+const FRAMES: usize = 4;
 
 /// What the calls are lent.
 #[derive(Clone)]
@@ -112,7 +118,8 @@ fn ours(index: usize, l: &mut Lent) -> u64 {
                 &mut l.number,
             ),
             16 => ragbasalt_system_working(plan, size, good, 7, l.mask, &mut l.number),
-            _ => ragbasalt_system_equal(plan, size, counters, 7, rows, 224, good, 7, l.counter, cells, 32, &mut l.number),
+            17 => ragbasalt_system_equal(plan, size, counters, 7, rows, 224, good, 7, l.counter, cells, 32, &mut l.number),
+            _ => ragbasalt_plan_histories(plan, size, FRAMES, l.out.as_mut_ptr(), l.out.len(), &mut l.number),
         }
     }
 }
@@ -141,7 +148,8 @@ fn reference(index: usize, l: &mut Lent) -> u64 {
             plan, &mut l.counters, &mut l.rows, &mut l.good, &l.sensors, l.mask, &l.faults, &mut l.place, &mut l.number,
         ),
         16 => calls::system_working(plan, &l.good, l.mask, &mut l.number),
-        _ => calls::system_equal(plan, &l.counters, &l.rows, &l.good, l.counter, &l.cells, &mut l.number),
+        17 => calls::system_equal(plan, &l.counters, &l.rows, &l.good, l.counter, &l.cells, &mut l.number),
+        _ => calls::plan_histories(plan, FRAMES, &mut l.out, &mut l.number),
     }
 }
 

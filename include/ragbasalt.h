@@ -1,6 +1,6 @@
 /* Ragbasalt: the voting frame controller of a web press, for programs in C and C++.
  *
- * Link with libragbasalt.a (`rt staticlib ragbasalt` puts it in target/staticlib). Document 01 says what the calls do; docs/GLOSSARY.md explains its words.
+ * Link with libragbasalt.a (`rt staticlib ragbasalt` puts it in target/staticlib). Document 01 says what the calls do, and document 02 where a request added or changed one; docs/GLOSSARY.md explains its words.
  *
  * Use the structs and the functions on them at the end of this file. The functions of words and lengths before them are what the archive has; they may gain
  * slices or numbers, and the version then rises. Compare ragbasalt_version() with RAGBASALT_VERSION once, at the start.
@@ -13,7 +13,7 @@
  * Everything else is answered: given the stack, no content of a buffer, no length, no mask and no number can make a call trap or run for ever.
  *
  * An answer is one number, number + 256 * line; 0 is done. Beside a refusal all slices stay as they were, those for a new plan, memory or record too, and a
- * number that a call gives (count, period, agreement) is 0. Refusals come in the order 7, 9, 8; those of a text, 1 to 6, before 8.
+ * number that a call gives (count, period, agreement) is 0. Refusals come in the order 7, 9, 11, 8; those of a text, 1 to 6, before 8.
  *
  * Stack that a call takes below its caller, measured on this archive as built for x86-64 (docs/PERFORMANCE.md): at most 25,100 bytes for a call on a plan or on one node, 26,000 for
  * ragbasalt_system_equal, 38,900 for a frame of the whole system. Allow for some more.
@@ -44,6 +44,12 @@ extern "C" {
 #define RAGBASALT_MESSAGE_BYTES (2u + 8u * RAGBASALT_CELLS)
 #define RAGBASALT_MAILBOX_BYTES (RAGBASALT_NODES * RAGBASALT_MESSAGE_BYTES)
 #define RAGBASALT_FAULTS_BYTES (RAGBASALT_NODES * ((RAGBASALT_NODES + 1u) * RAGBASALT_MESSAGE_BYTES + 8u * RAGBASALT_ACTUATORS))
+
+/* Fault histories are listed for plans of at most so many nodes, and for 1 to so many frames. The bytes are those of 5 nodes, R = 1 and 4 frames, 7,396 histories: counted, not proved, to be the most; a
+ * place that is too short is refused with 8. */
+#define RAGBASALT_HISTORIES_NODES 5u
+#define RAGBASALT_HISTORIES_FRAMES 4u
+#define RAGBASALT_HISTORIES_BYTES 29584u
 
 /* A plan's words: six counts; the initial patterns; the tasks, each by the six numbers of its text line, kinds 10 to 16 (an unused one is 10 0 0 0 0 0); a word of votes for each
  * frame, bit c set where cell c is voted in it; the actuators' cells. What is past the counts is zero. Other words, and another length, are a plan that 7 refuses. */
@@ -80,8 +86,10 @@ enum ragbasalt_number {
     RAGBASALT_OUT_OF_RANGE = 5,  /* an index out of range, an unused column not 0, a constant against the rules */
     RAGBASALT_UNRECOVERABLE = 6, /* there is no recovery period */
     RAGBASALT_INVALID_PLAN = 7,  /* a plan that no accepted text has */
-    RAGBASALT_WRONG_LENGTH = 8,  /* a slice not of its length, or a place for a text too short */
-    RAGBASALT_MASK_OR_COUNT = 9  /* a mask of 2^nodes or above, or a good count above the recovery period */
+    RAGBASALT_WRONG_LENGTH = 8,  /* a slice not of its length, or a place for a text or for histories too short */
+    RAGBASALT_MASK_OR_COUNT = 9, /* a mask of 2^nodes or above, or a good count above the recovery period */
+    /* 10 is of a run file's line: no call gives it */
+    RAGBASALT_NODES_OR_LENGTH = 11 /* more nodes, or a history of other length, than histories are listed for */
 };
 
 static inline unsigned ragbasalt_number_of(uint64_t answer)
@@ -114,6 +122,11 @@ uint64_t ragbasalt_plan_check(const uint64_t *plan, size_t plan_length);
 
 /* Gives the recovery period R in `period`. 7. */
 uint64_t ragbasalt_plan_period(const uint64_t *plan, size_t plan_length, size_t *period);
+
+/* Lists the fault histories of `frames` frames from power-on: the sequences of masks in which every frame has more than half of the nodes working, each once,
+ * ascending with the first frame leading. Writes them at the front of `masks`, one byte a mask, leaves what is after them, and gives in `count` how many
+ * histories they are. 7; 11 for more than 5 nodes, or `frames` not 1 to 4; 8 where they do not fit: `masks` has fewer than count * frames bytes. */
+uint64_t ragbasalt_plan_histories(const uint64_t *plan, size_t plan_length, size_t frames, uint8_t *masks, size_t masks_length, size_t *count);
 
 /* The bytes of a message, of a mailbox, of the fault bytes and of the text; no answers, and 0 for a plan that 7 refuses. */
 size_t ragbasalt_message_size(const uint64_t *plan, size_t plan_length);
@@ -208,6 +221,12 @@ static inline uint64_t ragbasalt_check(const ragbasalt_plan *plan)
 static inline uint64_t ragbasalt_period(const ragbasalt_plan *plan, size_t *period)
 {
     return ragbasalt_plan_period(plan->words, RAGBASALT_PLAN_WORDS, period);
+}
+
+/* ragbasalt_plan_histories: 7, 11; 8 where they do not fit */
+static inline uint64_t ragbasalt_histories(const ragbasalt_plan *plan, size_t frames, uint8_t *masks, size_t masks_length, size_t *count)
+{
+    return ragbasalt_plan_histories(plan->words, RAGBASALT_PLAN_WORDS, frames, masks, masks_length, count);
 }
 
 /* ragbasalt_message_size: no answer, 0 for a plan that 7 refuses */

@@ -36,12 +36,13 @@ pub struct Rows {
 }
 
 /// The calls, each with the answers that it can give; a size counts as 7 where it is 0.
-pub const CALLS: [(&str, &[usize]); 19] = [
+pub const CALLS: [(&str, &[usize]); 20] = [
     ("version", &[0]),
     ("plan_read", &[0, 1, 2, 3, 4, 5, 6, 8]),
     ("plan_write", &[0, 7, 8]),
     ("plan_check", &[0, 7]),
     ("plan_period", &[0, 7]),
+    ("plan_histories", &[0, 7, 8, 11]),
     ("message_size", &[0, 7]),
     ("mailbox_size", &[0, 7]),
     ("faults_size", &[0, 7]),
@@ -58,12 +59,15 @@ pub const CALLS: [(&str, &[usize]); 19] = [
     ("system_equal", &[0, 7, 8, 9]),
 ];
 
+/// The numbers of answers, 0 to 11.
+pub const NUMBERS: usize = 12;
+
 /// What was seen.
 #[derive(Clone, Default)]
 pub struct Totals {
     pub calls: u64,
     /// By call, then by the answer's number.
-    pub answers: [[u64; 10]; CALLS.len()],
+    pub answers: [[u64; NUMBERS]; CALLS.len()],
     pub inside: u64,
     pub outside: u64,
     pub recovered: u64,
@@ -72,6 +76,9 @@ pub struct Totals {
     pub differing: u64,
     /// Frames of one node that is bad, of two with one bad, and of two that are good and apart.
     pub small: [u64; 3],
+    /// Lists of histories by nodes and length; of length 4 and three nodes or more, by R.
+    pub histories: [[u64; 4]; 5],
+    pub periods: [u64; 3],
 }
 
 /// The report of a difference.
@@ -180,6 +187,25 @@ impl Both<'_> {
         let got = unsafe { ragbasalt_plan_period(p.at(), p.len(), c.at()) };
         let expected = calls::plan_period(plan.plan.as_ref(), &mut c.after[0]);
         self.settle("plan_period", "", got, expected, &[&p, &c])
+    }
+
+    pub fn plan_histories(&mut self, plan: &Words, length: usize, masks: &[u8]) -> Compared<u64> {
+        let mut p = self.lend("plan", &plan.words);
+        let mut m = self.lend("masks", masks);
+        let mut c = self.lend("count", &[self.r.below(9)]);
+        let got =
+            unsafe { ragbasalt_plan_histories(p.at(), p.len(), length, m.at(), m.len(), c.at()) };
+        let plan = plan.plan.as_ref();
+        let expected = calls::plan_histories(plan, length, &mut m.after, &mut c.after[0]);
+        let numbers = format!("length {length}");
+        self.settle("plan_histories", &numbers, got, expected, &[&p, &m, &c])?;
+        if let (0, Some(plan)) = (expected, plan) {
+            self.totals.histories[plan.nodes - 1][length - 1] += 1;
+            if length == 4 && plan.nodes > 2 {
+                self.totals.periods[plan.period.min(3) - 1] += 1;
+            }
+        }
+        Ok(expected)
     }
 
     pub fn sizes(&mut self, words: &Words) -> Compared<()> {

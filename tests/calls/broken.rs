@@ -1,7 +1,8 @@
 //! The test of the test: references with one error each, which the comparison has to see.
 //!
 //! Each file `broken/*.edit` is a comment, a file below the folder of the tests, and texts of it
-//! with what they become (`\n` is a line feed). A copy with the edit made is built and run.
+//! with what they become (`\n` is a line feed). A copy with the edit made is built and run. Each
+//! worker has one copy for all its edits, so that rustc builds anew only what an edit changes.
 
 use std::fs;
 use std::io;
@@ -14,51 +15,72 @@ const WORKERS: usize = 2;
 /// The calls that an error has to be seen in.
 const CALLS: &str = "20000";
 
-/// Copies the tests to a folder, with the edit made.
-fn copy(tests: &Path, folder: &Path, edit: &str) -> io::Result<()> {
-    let value =
-        |line: &str, key: &str| line.strip_prefix(key).map(|text| text.replace("\\n", "\n"));
-    let file = edit.lines().find_map(|line| value(line, "file: "));
-    let file = file.ok_or_else(|| io::Error::other("an edit without a file"))?;
-    for part in ["reference", "calls"] {
-        fs::create_dir_all(folder.join(part))?;
-        for entry in fs::read_dir(tests.join(part))? {
-            let path = entry?.path();
-            if path.extension().is_some_and(|extension| extension == "rs") {
-                fs::copy(&path, folder.join(part).join(path.file_name().unwrap_or_default()))?;
-            }
-        }
-    }
-    let mut text = fs::read_to_string(folder.join(&file))?;
-    let old = edit.lines().filter_map(|line| value(line, "old: "));
-    let new = edit.lines().filter_map(|line| value(line, "new: "));
-    for (old, new) in old.zip(new) {
-        if text.matches(&old).count() != 1 {
-            return Err(io::Error::other(format!("{file} has not just one {old:?}")));
-        }
-        text = text.replace(&old, &new);
-    }
-    fs::write(folder.join(file), text)
+/// A copy of the tests, and what they are built with.
+struct Worker<'a> {
+    tests: &'a Path,
+    library: &'a str,
+    folder: PathBuf,
 }
 
-/// Builds and runs a broken comparison; gives the first line of the difference that it saw.
-fn difference(tests: &Path, library: &str, work: &Path, edit: &Path) -> io::Result<Option<String>> {
-    let folder = work.join(edit.file_stem().unwrap_or_default());
-    copy(tests, &folder, &fs::read_to_string(edit)?)?;
-    let program = folder.join("program");
-    let build = Command::new("rustc")
-        .args(["--edition", "2021", "-A", "warnings", "-L", library, "-o"])
-        .args([&program, &folder.join("calls").join("main.rs")])
-        .status()?;
-    if !build.success() {
-        return Err(io::Error::other("it does not build"));
+impl Worker<'_> {
+    fn copy(&self) -> io::Result<()> {
+        if self.folder.exists() {
+            fs::remove_dir_all(&self.folder)?;
+        }
+        for part in ["reference", "calls"] {
+            fs::create_dir_all(self.folder.join(part))?;
+            for entry in fs::read_dir(self.tests.join(part))? {
+                let path = entry?.path();
+                if path.extension().is_some_and(|extension| extension == "rs") {
+                    let name = path.file_name().unwrap_or_default();
+                    fs::copy(&path, self.folder.join(part).join(name))?;
+                }
+            }
+        }
+        Ok(())
     }
-    let output = Command::new(&program).arg(CALLS).output()?;
-    let printed = String::from_utf8_lossy(&output.stdout).into_owned();
-    let first = printed.lines().next().unwrap_or_default();
-    let seen = output.status.code() == Some(1) && first.ends_with(": a difference");
-    fs::remove_dir_all(&folder)?;
-    Ok(seen.then(|| format!("{first} ({})", printed.lines().nth(1).unwrap_or_default())))
+
+    /// Makes an edit, builds and runs, and takes the edit back; gives the first line of the
+    /// difference that was seen.
+    fn difference(&self, edit: &Path) -> io::Result<Option<String>> {
+        let edit = fs::read_to_string(edit)?;
+        let value =
+            |line: &str, key: &str| line.strip_prefix(key).map(|text| text.replace("\\n", "\n"));
+        let file = edit.lines().find_map(|line| value(line, "file: "));
+        let file = file.ok_or_else(|| io::Error::other("an edit without a file"))?;
+        let right = fs::read_to_string(self.tests.join(&file))?;
+        let mut text = right.clone();
+        let old = edit.lines().filter_map(|line| value(line, "old: "));
+        let new = edit.lines().filter_map(|line| value(line, "new: "));
+        for (old, new) in old.zip(new) {
+            if text.matches(&old).count() != 1 {
+                return Err(io::Error::other(format!("{file} has not just one {old:?}")));
+            }
+            text = text.replace(&old, &new);
+        }
+        fs::write(self.folder.join(&file), text)?;
+        let seen = self.run();
+        fs::write(self.folder.join(&file), right)?;
+        seen
+    }
+
+    fn run(&self) -> io::Result<Option<String>> {
+        let program = self.folder.join("program");
+        let incremental = format!("incremental={}", self.folder.join("built").display());
+        let build = Command::new("rustc")
+            .args(["--edition", "2021", "-A", "warnings", "-C", &incremental])
+            .args(["-L", self.library, "-o"])
+            .args([&program, &self.folder.join("calls").join("main.rs")])
+            .status()?;
+        if !build.success() {
+            return Err(io::Error::other("it does not build"));
+        }
+        let output = Command::new(&program).arg(CALLS).output()?;
+        let printed = String::from_utf8_lossy(&output.stdout).into_owned();
+        let first = printed.lines().next().unwrap_or_default();
+        let seen = output.status.code() == Some(1) && first.ends_with(": a difference");
+        Ok(seen.then(|| format!("{first} ({})", printed.lines().nth(1).unwrap_or_default())))
+    }
 }
 
 fn edits(tests: &Path) -> io::Result<Vec<PathBuf>> {
@@ -80,17 +102,24 @@ pub fn run(tests: &str, library: &str, work: &str) -> bool {
     };
     let next = AtomicUsize::new(0);
     let reports = Mutex::new(vec![None; edits.len()]);
-    let worker = || loop {
-        let number = next.fetch_add(1, Ordering::Relaxed);
-        let Some(edit) = edits.get(number) else { return };
-        let report = match difference(tests, library, Path::new(work), edit) {
-            Ok(Some(report)) => Ok(report),
-            Ok(None) => Err(String::from("NO DIFFERENCE SEEN")),
-            Err(error) => Err(error.to_string()),
-        };
-        reports.lock().unwrap()[number] = Some(report);
+    let work_on = |number: usize| {
+        let folder = Path::new(work).join(format!("worker-{number}"));
+        let worker = Worker { tests, library, folder };
+        let made = worker.copy();
+        loop {
+            let number = next.fetch_add(1, Ordering::Relaxed);
+            let Some(edit) = edits.get(number) else { break };
+            let made = made.as_ref().map_err(|error| error.to_string());
+            let seen =
+                made.and_then(|_| worker.difference(edit).map_err(|error| error.to_string()));
+            let report = seen.and_then(|seen| seen.ok_or(String::from("NO DIFFERENCE SEEN")));
+            reports.lock().unwrap()[number] = Some(report);
+        }
+        let _ = fs::remove_dir_all(&worker.folder);
     };
-    std::thread::scope(|scope| (0..WORKERS).for_each(|_| drop(scope.spawn(worker))));
+    std::thread::scope(|scope| {
+        (0..WORKERS).for_each(|number| drop(scope.spawn(move || work_on(number))));
+    });
     let mut seen = 0;
     for (edit, report) in edits.iter().zip(reports.into_inner().unwrap().into_iter().flatten()) {
         let name = edit.file_stem().unwrap_or_default().to_string_lossy().into_owned();

@@ -5,12 +5,12 @@ use super::calls::{CELLS, NODES, PLAN_WORDS};
 use super::damage;
 use super::draw::{accepted, damaged, plan_rows, wrong_length, Draw};
 use super::frame::{message_length, plane};
-use super::generate::{never, plan_text, run, Masks, OUTSIDE};
+use super::generate::{never, plan_text, quick, run, Masks, OUTSIDE};
 use super::listing::run_line_length;
 use super::plan::{number, Plan, Row};
 use super::random::{strange, Random, Values};
 
-pub const CLASSES: [&str; 10] = [
+pub const CLASSES: [&str; 11] = [
     "plan texts",
     "plan texts",
     "damaged words",
@@ -21,6 +21,7 @@ pub const CLASSES: [&str; 10] = [
     "list inside the premise",
     "list outside the premise",
     "boards",
+    "histories",
 ];
 
 pub fn class_of(seed: u64) -> &'static str {
@@ -42,7 +43,8 @@ pub fn case(seed: u64, both: &mut Both) -> Compared<()> {
         "any system" => system(both, values, &rows),
         "list inside the premise" => list(both, values, &rows, Masks::Premise),
         "list outside the premise" => list(both, values, &rows, r.pick(&OUTSIDE)),
-        _ => boards(both, values, &rows),
+        "boards" => boards(both, values, &rows),
+        _ => histories(both, values, &rows),
     }
 }
 
@@ -113,6 +115,7 @@ enum Call {
     Period,
     Sizes,
     Write,
+    Histories,
     PowerOn,
     Compute,
     Message,
@@ -131,9 +134,9 @@ const NODE: [Call; 9] =
     [PowerOn, Compute, Compute, Message, Message, Vote, Vote, Setpoints, Single];
 const SYSTEM: [Call; 6] = [Start, Frame, Frame, Frame, Working, Equal];
 #[rustfmt::skip]
-const ALL: [Call; 14] = [
-    Check, Period, Sizes, Write, PowerOn, Compute, Message, Vote, Setpoints, Single, Start, Frame,
-    Working, Equal,
+const ALL: [Call; 15] = [
+    Check, Period, Sizes, Write, Histories, PowerOn, Compute, Message, Vote, Setpoints, Single,
+    Start, Frame, Working, Equal,
 ];
 
 /// Makes one call with drawn arguments.
@@ -151,6 +154,10 @@ fn make(both: &mut Both, draw: &Draw, plan: &Words, state: &mut State, call: Cal
         Period => both.plan_period(plan)?,
         Sizes => both.sizes(plan).map(|_| 0)?,
         Write => both.plan_write(plan, &draw.text(plan))?,
+        Histories => {
+            let length = draw.frames();
+            both.plan_histories(plan, length, &draw.masks(plan, length))?
+        }
         PowerOn => both.node_power_on(plan, memory)?,
         Compute => both.node_compute(plan, memory, &draw.sensors())?,
         Message => both.node_message(plan, memory, &mut draw.message())?,
@@ -210,6 +217,19 @@ fn system(both: &mut Both, values: &Values, rows: &[Row]) -> Compared<()> {
     let (plan, words) = accepted(rows);
     let draw = Draw { r: both.r, values, plan: &plan, wrong: both.r.pick(&[0, 0, 20, 6]) };
     make_any(both, &draw, &words, &SYSTEM, 50)
+}
+
+/// Histories of a plan, mostly of one with a short period: longer ones give the same lists.
+fn histories(both: &mut Both, values: &Values, rows: &[Row]) -> Compared<()> {
+    let r = both.r;
+    let short = quick(r, values);
+    let (plan, words) = accepted(if r.one_in(4) { rows } else { &short });
+    let draw = Draw { r, values, plan: &plan, wrong: 0 };
+    for _ in 0..if plan.nodes > 5 { 8 } else { 40 } {
+        let length = draw.frames();
+        both.plan_histories(&words, length, &draw.masks(&words, length))?;
+    }
+    Ok(())
 }
 
 // ---- lists of frames from power-on

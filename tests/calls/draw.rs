@@ -10,6 +10,8 @@ use super::plan::{read, Plan, Row};
 use super::random::{strange, Random, Values};
 
 const MINUS: u64 = 1 << 63;
+/// The bytes that are enough for every list of histories.
+const MOST_HISTORIES: usize = 29_584;
 const INFINITY: u64 = 0x7FF << 52;
 
 /// The rows of an accepted plan.
@@ -187,6 +189,34 @@ impl Draw<'_> {
         let wide = [right, right, right + 1, right + self.r.below(200)];
         let length = if self.r.one_in(3) { self.r.pick(&short) } else { self.r.pick(&wide) };
         vec![self.r.next() as u8; length]
+    }
+
+    /// A length of histories: 1 to 4, or outside, also right in its low bits only.
+    pub fn frames(&self) -> usize {
+        let r = self.r;
+        let low = r.between(1, 4);
+        let far = [1 << 8 | low, 1 << 16 | low, 1 << 32 | low, 1 << 63 | low, usize::MAX];
+        match r.below(8) {
+            0 => r.pick(&[0, 5, 6, r.between(7, 40)]),
+            1 => r.pick(&[0, 5, 6, r.pick(&far)]),
+            _ => r.between(1, 4),
+        }
+    }
+
+    /// A place for histories: exact, longer, far too long; or short, by a byte, by a history, by
+    /// all but one history, or of no byte. Where they are refused it may be anything.
+    pub fn masks(&self, words: &Words, length: usize) -> Vec<u8> {
+        let r = self.r;
+        let right = match calls::histories_size(words.plan.as_ref(), length) {
+            0 => r.pick(&[0, 1, 3, 66, r.below(400), MOST_HISTORIES]),
+            right => right,
+        };
+        let less = right.saturating_sub(1);
+        let short =
+            [0, less, less, right.saturating_sub(length), length.min(less), r.below(right + 1)];
+        let wide = [right, right, right + 1, right + r.below(200), MOST_HISTORIES.max(right) + 99];
+        let bytes = if r.one_in(3) { r.pick(&short) } else { r.pick(&wide) };
+        vec![r.next() as u8; bytes]
     }
 
     /// What stands where a call gives a number.

@@ -61,6 +61,53 @@ static void plans(const ragbasalt_plan *plan, uint8_t *text, size_t length)
     text[length - 1] = '\n';
 }
 
+/* How many histories of length 3 a press has: by its nodes, and by whether the recovery period is 1. */
+static size_t three(size_t nodes, size_t period)
+{
+    static const size_t one[] = {1, 1, 28, 41, 916}, longer[] = {1, 1, 22, 29, 526};
+    return period == 1 ? one[nodes - 1] : longer[nodes - 1];
+}
+
+/* The fault histories; plan K, with three nodes and the recovery period 3, has 22 of length 3. */
+static void histories(const ragbasalt_plan *plan)
+{
+    static uint8_t masks[RAGBASALT_HISTORIES_BYTES + 1], untouched[RAGBASALT_HISTORIES_BYTES + 1];
+    ragbasalt_plan zero;
+    size_t n = (size_t)plan->words[RAGBASALT_AT_NODES], period = 0, length, count, bytes, i;
+    memset(&zero, 0, sizeof zero);
+    memset(masks, 255, sizeof masks);
+    memset(untouched, 255, sizeof untouched);
+    HOLD(ragbasalt_period(plan, &period) == RAGBASALT_DONE);
+    count = 9;
+    HOLD(ragbasalt_histories(&zero, 0, masks, 0, &count) == RAGBASALT_INVALID_PLAN && count == 0);
+    for (length = 0; length <= 5; length++) {
+        count = 9;
+        if (n > 5 || length == 0 || length == 5) {
+            HOLD(ragbasalt_histories(plan, length, masks, 0, &count) == RAGBASALT_NODES_OR_LENGTH && count == 0);
+            count = 9;
+            HOLD(ragbasalt_histories(plan, length, masks, sizeof masks, &count) == RAGBASALT_NODES_OR_LENGTH && count == 0);
+            HOLD(memcmp(masks, untouched, sizeof masks) == 0);
+            continue;
+        }
+        HOLD(ragbasalt_histories(plan, length, masks, RAGBASALT_HISTORIES_BYTES, &count) == RAGBASALT_DONE && count > 0);
+        HOLD(length != 3 || count == three(n, period));
+        bytes = count * length;
+        HOLD(bytes <= RAGBASALT_HISTORIES_BYTES);
+        if (bytes > RAGBASALT_HISTORIES_BYTES)
+            return;
+        HOLD(memcmp(masks + bytes, untouched, sizeof masks - bytes) == 0);
+        for (i = 0; i < length; i++)
+            HOLD(masks[i] == 0);
+        for (i = 1; i < count; i++)
+            HOLD(memcmp(masks + (i - 1) * length, masks + i * length, length) < 0);
+        memset(masks, 255, sizeof masks);
+        HOLD(ragbasalt_histories(plan, length, masks, bytes - 1, &count) == RAGBASALT_WRONG_LENGTH && count == 0);
+        HOLD(memcmp(masks, untouched, sizeof masks) == 0);
+        HOLD(ragbasalt_histories(plan, length, masks, bytes, &count) == RAGBASALT_DONE && count == bytes / length);
+        memset(masks, 255, sizeof masks);
+    }
+}
+
 /* A frame of node 0 by the calls on one node, all nodes being as it is; the memory that the single controller has after it. */
 static void node(const ragbasalt_plan *plan, const ragbasalt_memory *before, const ragbasalt_memory *after, const uint64_t *sensors, const uint64_t *expected)
 {
@@ -107,6 +154,7 @@ int main(void)
     fclose(file);
     structs();
     plans(&plan, text, length);
+    histories(&plan);
     s = (size_t)plan.words[RAGBASALT_AT_SENSORS];
     a = (size_t)plan.words[RAGBASALT_AT_ACTUATORS];
     HOLD(ragbasalt_power_on(&plan, &single) == RAGBASALT_DONE && ragbasalt_start(&plan, &system) == RAGBASALT_DONE);

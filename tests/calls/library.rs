@@ -1,6 +1,7 @@
 //! The functions of libragbasalt.a, as include/ragbasalt.h declares them.
 
-#[link(name = "ragbasalt", kind = "static")]
+// The archive is looked for where the program is linked, not before.
+#[link(name = "ragbasalt", kind = "static", modifiers = "-bundle")]
 extern "C" {
     pub fn ragbasalt_version() -> u64;
     pub fn ragbasalt_plan_read(
@@ -18,6 +19,14 @@ extern "C" {
     ) -> u64;
     pub fn ragbasalt_plan_check(plan: *const u64, plan_length: usize) -> u64;
     pub fn ragbasalt_plan_period(plan: *const u64, plan_length: usize, period: *mut usize) -> u64;
+    pub fn ragbasalt_plan_histories(
+        plan: *const u64,
+        plan_length: usize,
+        frames: usize,
+        masks: *mut u8,
+        masks_length: usize,
+        count: *mut usize,
+    ) -> u64;
     pub fn ragbasalt_message_size(plan: *const u64, plan_length: usize) -> usize;
     pub fn ragbasalt_mailbox_size(plan: *const u64, plan_length: usize) -> usize;
     pub fn ragbasalt_faults_size(plan: *const u64, plan_length: usize) -> usize;

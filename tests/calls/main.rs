@@ -14,6 +14,9 @@ mod frame;
 #[allow(dead_code)]
 #[path = "../reference/generate.rs"]
 mod generate;
+#[allow(dead_code)]
+#[path = "../reference/histories.rs"]
+mod histories;
 mod lend;
 mod library;
 #[allow(dead_code)]
@@ -26,8 +29,9 @@ mod plan;
 mod random;
 
 use std::process::ExitCode;
+use std::sync::atomic::{AtomicU64, Ordering};
 
-use both::{Both, Totals, CALLS};
+use both::{Both, Totals, CALLS, NUMBERS};
 use classes::{case, class_of};
 use random::Random;
 
@@ -69,12 +73,16 @@ fn compare(seed: u64, totals: &mut Totals, bare: bool) -> Result<(), Difference>
     })
 }
 
-/// Every WORKERS-th seed from `first` on, until `count` calls were made.
-fn work(first: u64, count: u64, bare: bool) -> Result<Totals, Difference> {
+/// Every WORKERS-th seed from `first` on, until `count` calls were made; no seed above `least`, the
+/// least one at which a worker saw a difference.
+fn work(first: u64, count: u64, bare: bool, least: &AtomicU64) -> Result<Totals, Difference> {
     let mut totals = Totals::default();
     let mut seed = first;
-    while totals.calls < count {
-        compare(seed, &mut totals, bare)?;
+    while totals.calls < count && seed < least.load(Ordering::Relaxed) {
+        if let Err(difference) = compare(seed, &mut totals, bare) {
+            least.fetch_min(seed, Ordering::Relaxed);
+            return Err(difference);
+        }
         seed += WORKERS;
     }
     Ok(totals)
@@ -88,6 +96,10 @@ fn sum(all: &mut Totals, part: &Totals) {
     all.boards += part.boards;
     all.differing += part.differing;
     all.small.iter_mut().zip(part.small).for_each(|(all, part)| *all += part);
+    all.periods.iter_mut().zip(part.periods).for_each(|(all, part)| *all += part);
+    for (all, part) in all.histories.iter_mut().flatten().zip(part.histories.iter().flatten()) {
+        *all += part;
+    }
     for (all, part) in all.answers.iter_mut().flatten().zip(part.answers.iter().flatten()) {
         *all += part;
     }
@@ -97,8 +109,9 @@ fn sum(all: &mut Totals, part: &Totals) {
 fn print(totals: &Totals) -> bool {
     let mut complete = totals.inside > 0 && totals.outside > 0 && totals.recovered > 0;
     complete &= totals.differing > 0 && totals.small.iter().all(|&frames| frames > 0);
+    complete &= totals.histories.iter().flatten().chain(&totals.periods).all(|&lists| lists > 0);
     print!("{:<16}{:>8}", "call", "calls");
-    (0..10).for_each(|number| print!("{number:>8}"));
+    (0..NUMBERS).for_each(|number| print!("{number:>8}"));
     println!();
     for ((name, possible), answers) in CALLS.iter().zip(&totals.answers) {
         print!("{name:<16}{:>8}", answers.iter().sum::<u64>());
@@ -112,7 +125,7 @@ fn print(totals: &Totals) -> bool {
         println!();
     }
     print!("{:<24}", "answers");
-    for number in 0..10 {
+    for number in 0..NUMBERS {
         print!("{:>8}", totals.answers.iter().map(|answers| answers[number]).sum::<u64>());
     }
     println!();
@@ -126,14 +139,19 @@ fn print(totals: &Totals) -> bool {
     );
     let [one, two, apart] = totals.small;
     println!("frames of one node that is bad {one}; of two, one bad {two}, good and apart {apart}");
+    println!(
+        "histories by nodes and length {:?}; of length 4 by R of 1, 2 and longer {:?}",
+        totals.histories, totals.periods
+    );
     complete
 }
 
 fn run(count: u64, first: u64, bare: bool) -> bool {
     let mut totals = Totals::default();
+    let least = &AtomicU64::new(u64::MAX);
     let parts: Vec<_> = std::thread::scope(|scope| {
         let count = count.div_ceil(WORKERS);
-        let worker = |number| scope.spawn(move || work(first + number, count, bare));
+        let worker = |number| scope.spawn(move || work(first + number, count, bare, least));
         let workers: Vec<_> = (0..WORKERS).map(worker).collect();
         workers.into_iter().map(|worker| worker.join().expect("no panic")).collect()
     });
@@ -174,7 +192,7 @@ fn numbers(arguments: &[&str], bare: bool) -> bool {
     }
 }
 
-fn main() -> ExitCode {
+pub fn main() -> ExitCode {
     let arguments: Vec<String> = std::env::args().skip(1).collect();
     let arguments: Vec<&str> = arguments.iter().map(String::as_str).collect();
     let equal = match *arguments {

@@ -1,12 +1,13 @@
 //! The calls that the library exports: what each answers and writes, on numbers and slices.
 //!
-//! What the calls do and when they are refused is document 01's, and the agreement request
-//! 2026-02's; beside a refusal it is 0, as a count or period is. Plan, memory and system as words
-//! are the library's own layout, which document 01 has not: a memory is a counter and 32 patterns,
-//! a system 7 counters, 7 x 32 patterns and 7 good counts, a plan 446 words.
+//! What the calls do and when they are refused is document 01's, the agreement request 2026-02's
+//! and the histories 2026-05's; beside a refusal a number that a call gives is 0. Plan, memory and
+//! system as words are the library's own layout, which document 01 has not: a memory is a counter
+//! and 32 patterns, a system 7 counters, 7 x 32 patterns and 7 good counts, a plan 446 words.
 
 use super::frame::{fault_length, message_length, Memory, System};
 use super::generate::plan_text;
+use super::histories::histories;
 use super::plan::{parse_rows, read, Action, Plan, Row, Task, LINE, MOST_TASKS};
 
 pub const NODES: usize = 7;
@@ -151,6 +152,30 @@ pub fn plan_check(plan: Option<&Plan>) -> u64 {
 pub fn plan_period(plan: Option<&Plan>, period: &mut usize) -> u64 {
     *period = plan.map_or(0, |plan| plan.period);
     plan_check(plan)
+}
+
+/// The bytes that the histories take; 0 where they are refused.
+pub fn histories_size(plan: Option<&Plan>, length: usize) -> usize {
+    plan.and_then(|plan| histories(plan, length).ok()).map_or(0, <[u8]>::len)
+}
+
+/// "They fill the front of a lent buffer, one byte a mask, the rest unchanged, and their count is
+/// given; a short buffer is refusal 8." 11 comes "after 7 and before 8".
+pub fn plan_histories(
+    plan: Option<&Plan>,
+    length: usize,
+    buffer: &mut [u8],
+    count: &mut usize,
+) -> u64 {
+    *count = 0;
+    let Some(plan) = plan else { return answer(7, 0) };
+    let Ok(list) = histories(plan, length) else { return answer(11, 0) };
+    if buffer.len() < list.len() {
+        return answer(8, 0);
+    }
+    buffer[..list.len()].copy_from_slice(list);
+    *count = list.len() / length;
+    0
 }
 
 pub fn message_size(plan: Option<&Plan>) -> usize {

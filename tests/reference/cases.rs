@@ -2,8 +2,8 @@
 
 use super::damage;
 use super::generate::{
-    assemble, chain, longest, never, plan_text, recovering, run, run_text, slow, votes, Masks,
-    OUTSIDE,
+    assemble, chain, longest, never, plan_text, quick, recovering, run, run_text, slow, votes,
+    Masks, OUTSIDE,
 };
 use super::listing::MOST_LINES;
 use super::plan::{read, Row};
@@ -36,6 +36,22 @@ pub const CLASSES: [(&str, u64); 18] = [
     ("plan and run damaged", 1),
     ("plan.txt missing", 1),
     ("run.txt missing", 1),
+];
+
+/// The classes of the histories program.
+pub const HISTORIES_CLASSES: [(&str, u64); 12] = [
+    ("any period", 30),
+    ("short period", 22),
+    ("slow recovery", 4),
+    ("longest plan", 2),
+    ("no recovery", 5),
+    ("plan length", 3),
+    ("plan form", 7),
+    ("plan header", 8),
+    ("plan order", 7),
+    ("plan rules", 7),
+    ("plan, several damages", 3),
+    ("plan.txt missing", 2),
 ];
 
 /// Runs at the limit of 100,000 lines: one seed each out of 3,000 one after another.
@@ -108,9 +124,8 @@ fn any_run(r: &Random, plan: &[u8], values: &Values, count: usize) -> (Vec<u8>, 
     }
 }
 
-/// A plan or run that is damaged or missing; `turn` counts the cases of the class.
-fn damaged_case(r: &Random, class: &'static str, turn: usize) -> Case {
-    let values = &Values::new(r);
+/// The plan of a class that damages it, or leaves it whole; `turn` counts the cases of the class.
+fn damaged_plan(r: &Random, values: &Values, class: &str, turn: usize) -> Vec<u8> {
     let rows = match class {
         "run damaged" | "run.txt missing" => recovering(r, values),
         "plan rules" => loop {
@@ -121,7 +136,7 @@ fn damaged_case(r: &Random, class: &'static str, turn: usize) -> Case {
         },
         _ => any_plan(r, values),
     };
-    let plan = match class {
+    match class {
         "plan length" => damage::length(r, plan_text(&rows), turn),
         "plan form" => damage::form(r, rows, turn),
         "plan header" => damage::header(r, rows, turn),
@@ -129,7 +144,13 @@ fn damaged_case(r: &Random, class: &'static str, turn: usize) -> Case {
         "plan rules" => damage::rules(r, rows, turn),
         "plan, several damages" | "plan and run damaged" => damage::several(r, rows, turn),
         _ => plan_text(&rows),
-    };
+    }
+}
+
+/// A plan or run that is damaged or missing.
+fn damaged_case(r: &Random, class: &'static str, turn: usize) -> Case {
+    let values = &Values::new(r);
+    let plan = damaged_plan(r, values, class, turn);
     let (mut run, nodes, sensors) = any_run(r, &plan, values, r.between(1, 20));
     if class.ends_with("run damaged") {
         damage::run(r, &mut run, nodes, sensors, turn);
@@ -142,15 +163,19 @@ fn damaged_case(r: &Random, class: &'static str, turn: usize) -> Case {
 }
 
 /// The class of a seed, and how many cases of that class have smaller seeds.
-pub fn class_of(seed: u64) -> (&'static str, usize) {
+fn class_in(classes: &[(&'static str, u64)], seed: u64) -> (&'static str, usize) {
     let mut slot = seed % 100;
-    for (class, share) in CLASSES {
+    for &(class, share) in classes {
         if slot < share {
             return (class, (seed / 100 * share + slot) as usize);
         }
         slot -= share;
     }
     unreachable!("the shares of the classes sum to 100")
+}
+
+pub fn class_of(seed: u64) -> (&'static str, usize) {
+    class_in(&CLASSES, seed)
 }
 
 pub fn case(seed: u64) -> Case {
@@ -164,4 +189,20 @@ pub fn case(seed: u64) -> Case {
         }
         (class, _) => whole_case(r, class),
     }
+}
+
+/// A plan for the histories program, which reads no run.
+pub fn histories_case(seed: u64) -> Case {
+    let r = &Random::new(seed);
+    let (class, turn) = class_in(&HISTORIES_CLASSES, seed);
+    let values = &Values::new(r);
+    let plan = match class {
+        "any period" => plan_text(&recovering(r, values)),
+        "short period" => plan_text(&quick(r, values)),
+        "slow recovery" => plan_text(&slow(r, values)),
+        "longest plan" => plan_text(&longest(r, values)),
+        "no recovery" => plan_text(&never(r, values)),
+        _ => damaged_plan(r, values, class, turn),
+    };
+    Case { class, plan: Some(plan).filter(|_| class != "plan.txt missing"), run: None }
 }

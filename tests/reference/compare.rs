@@ -1,4 +1,4 @@
-//! Runs a program over the generated cases and compares its listings with the reference's.
+//! Runs a program over the generated cases and compares what it prints with the reference's.
 
 use std::collections::BTreeMap;
 use std::fs;
@@ -8,13 +8,51 @@ use std::process::{Command, Stdio};
 use std::sync::atomic::{AtomicU64, Ordering};
 use std::sync::Mutex;
 
-use super::cases::{case, Case, CLASSES, LIMITS};
+use super::cases::{case, histories_case, Case, CLASSES, HISTORIES_CLASSES, LIMITS};
+use super::histories;
 use super::listing::{listing, Listing};
 
-const REFUSALS: [u64; 7] = [1, 2, 3, 4, 5, 6, 10];
-/// From this many cases on, each class and each refusal has to come up.
-const ENOUGH: u64 = 3000;
 const WORKERS: usize = 2;
+
+/// What is compared: the program's cases, and what it has to print.
+pub struct Kind {
+    /// The commands that compare and that make a case.
+    compare: &'static str,
+    case: &'static str,
+    make: fn(u64) -> Case,
+    expected: fn(&Case) -> Listing,
+    classes: &'static [&'static [(&'static str, u64)]],
+    refusals: [u64; 7],
+    lines: &'static str,
+    /// From this many cases on, each class and each refusal has to come up.
+    enough: u64,
+}
+
+pub static RUN: Kind = Kind {
+    compare: "compare",
+    case: "case",
+    make: case,
+    expected: |case| listing(&bytes(&case.plan), &bytes(&case.run)),
+    classes: &[&CLASSES, &LIMITS],
+    refusals: [1, 2, 3, 4, 5, 6, 10],
+    lines: "frames compared",
+    enough: 3000,
+};
+
+pub static HISTORIES: Kind = Kind {
+    compare: "histories",
+    case: "histories-case",
+    make: histories_case,
+    expected: |case| histories::text(&bytes(&case.plan)),
+    classes: &[&HISTORIES_CLASSES],
+    refusals: [1, 2, 3, 4, 5, 6, 11],
+    lines: "histories compared",
+    enough: 1000,
+};
+
+fn bytes(file: &Option<Vec<u8>>) -> &[u8] {
+    file.as_deref().unwrap_or_default()
+}
 
 #[derive(Default)]
 struct Totals {
@@ -22,7 +60,7 @@ struct Totals {
     refusals: BTreeMap<u64, u64>,
     cases: u64,
     accepted: u64,
-    frames: u64,
+    lines: u64,
 }
 
 impl Totals {
@@ -33,24 +71,24 @@ impl Totals {
         }
         self.cases += 1;
         self.accepted += u64::from(listing.accepted);
-        self.frames += listing.frames as u64;
+        self.lines += listing.lines as u64;
     }
 
     /// Prints the table; false if some class or refusal never came up.
-    fn print(&self) -> bool {
+    fn print(&self, kind: &Kind) -> bool {
         let mut complete = true;
-        for (class, _) in CLASSES.iter().chain(&LIMITS) {
+        for (class, _) in kind.classes.iter().copied().flatten() {
             let cases = self.classes.get(class).copied().unwrap_or(0);
             complete &= cases > 0;
             println!("{class:<32}{cases:>10}");
         }
-        for number in REFUSALS {
+        for number in kind.refusals {
             let cases = self.refusals.get(&number).copied().unwrap_or(0);
             complete &= cases > 0;
             println!("{:<32}{cases:>10}", format!("refusal {number}"));
         }
         println!("{:<32}{:>10}", "accepted plans", self.accepted);
-        println!("{:<32}{:>10}", "frames compared", self.frames);
+        println!("{:<32}{:>10}", kind.lines, self.lines);
         complete
     }
 }
@@ -75,6 +113,7 @@ struct Difference {
 }
 
 struct Comparer {
+    kind: &'static Kind,
     program: PathBuf,
     folder: PathBuf,
     /// The cases run from `first` up to, not including, `end`.
@@ -88,14 +127,13 @@ struct Comparer {
 impl Comparer {
     /// Compares one case in a folder of its own; gives a report if the listings differ.
     fn compare(&self, seed: u64) -> io::Result<Option<String>> {
-        let case = case(seed);
-        let folder = self.folder.join(format!("seed-{seed}"));
+        let case = (self.kind.make)(seed);
+        let folder = self.folder.join(format!("{}-{seed}", self.kind.case));
         if folder.exists() {
             fs::remove_dir_all(&folder)?;
         }
         write_case(&case, &folder)?;
-        let bytes = |file: &Option<Vec<u8>>| file.clone().unwrap_or_default();
-        let expected = listing(&bytes(&case.plan), &bytes(&case.run));
+        let expected = (self.kind.expected)(&case);
         let output =
             Command::new(&self.program).current_dir(&folder).stdin(Stdio::null()).output()?;
         if output.stdout == expected.bytes {
@@ -114,12 +152,13 @@ impl Comparer {
     /// Where the case is kept and how to make and run it again.
     fn again(&self, seed: u64, folder: &Path) -> String {
         let reference = std::env::args().next().unwrap_or_default();
+        let Kind { compare, case, .. } = self.kind;
         let (program, folder) = (self.program.display(), folder.display());
         format!(
-            "kept in {folder} (plan.txt, run.txt, expected, got, errors)\n\
+            "kept in {folder} (the case's files, expected, got, errors)\n\
              to make it and run it again:\n  \
-             {reference} case {seed} {folder} && (cd {folder} && {program} | diff - expected)\n\
-             to compare it again:\n  {reference} compare {program} 1 {seed}\n"
+             {reference} {case} {seed} {folder} && (cd {folder} && {program} | diff - expected)\n\
+             to compare it again:\n  {reference} {compare} {program} 1 {seed}\n"
         )
     }
 
@@ -149,7 +188,7 @@ impl Comparer {
             return false;
         }
         let totals = self.totals.into_inner().unwrap();
-        let complete = totals.print() || self.end - self.first < ENOUGH;
+        let complete = totals.print(self.kind) || self.end - self.first < self.kind.enough;
         if !complete {
             println!("some class or refusal above never came up");
             return false;
@@ -179,7 +218,7 @@ fn first_difference(expected: &[u8], got: &[u8]) -> String {
 
 /// Compares the cases of `count` seeds from `first` on; false if a listing differs or the cases
 /// are not what they should be.
-pub fn compare(program: &str, count: u64, first: u64) -> io::Result<bool> {
+pub fn compare(kind: &'static Kind, program: &str, count: u64, first: u64) -> io::Result<bool> {
     let folder = std::env::var_os("CASES").unwrap_or_else(|| "target/reference".into());
     // The program runs in another folder, so a path to it must not be relative.
     let program = match program.contains('/') {
@@ -188,6 +227,7 @@ pub fn compare(program: &str, count: u64, first: u64) -> io::Result<bool> {
         false => PathBuf::from(program),
     };
     let comparer = Comparer {
+        kind,
         program,
         folder: PathBuf::from(folder),
         first,

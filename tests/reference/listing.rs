@@ -8,7 +8,8 @@ pub const MOST_LINES: usize = 100_000;
 
 pub struct Listing {
     pub bytes: Vec<u8>,
-    pub frames: usize,
+    /// The lines that are no refusal.
+    pub lines: usize,
     pub accepted: bool,
     pub refusal: Option<Refusal>,
 }
@@ -26,6 +27,13 @@ pub fn push_number(out: &mut Vec<u8>, mut value: u64, width: usize) {
         }
     }
     out.extend_from_slice(&digits[start.min(20 - width)..]);
+}
+
+/// "A refusal prints number (4) and line (8)."
+pub fn push_refusal(out: &mut Vec<u8>, refusal: Refusal) {
+    push_number(out, refusal.number, 4);
+    push_number(out, refusal.line as u64, 8);
+    out.push(b'\n');
 }
 
 /// "mask (width 4), fill (4), S patterns (20 each), line feed"
@@ -108,14 +116,12 @@ fn run(plan: &Plan, text: &[u8], out: &mut Vec<u8>) -> (usize, Option<Refusal>) 
 pub fn listing(plan_text: &[u8], run_text: &[u8]) -> Listing {
     let mut bytes = Vec::new();
     let plan = plan::read(plan_text);
-    let (frames, refusal) = match &plan {
+    let (lines, refusal) = match &plan {
         Ok(plan) => run(plan, run_text, &mut bytes),
         Err(refusal) => (0, Some(*refusal)),
     };
     if let Some(refusal) = refusal {
-        push_number(&mut bytes, refusal.number, 4);
-        push_number(&mut bytes, refusal.line as u64, 8);
-        bytes.push(b'\n');
+        push_refusal(&mut bytes, refusal);
     }
-    Listing { bytes, frames, accepted: plan.is_ok(), refusal }
+    Listing { bytes, lines, accepted: plan.is_ok(), refusal }
 }

@@ -1,5 +1,5 @@
 //! An independent reference for the voting frame controller, written from document 01 and requests
-//! 2026-01, 2026-02 and 2026-04 alone, with a generator of test cases and a comparer. See
+//! 2026-01, 2026-02, 2026-04 and 2026-05 alone, with a generator of test cases and a comparer. See
 //! README.md.
 
 #[allow(dead_code)]
@@ -10,6 +10,7 @@ mod compare;
 mod damage;
 mod frame;
 mod generate;
+mod histories;
 mod listing;
 mod plan;
 mod random;
@@ -22,9 +23,12 @@ use std::path::Path;
 use std::process::ExitCode;
 
 const USAGE: &str = "usage:
-  reference listing FOLDER                      print the listing of FOLDER/plan.txt and run.txt
-  reference case SEED FOLDER                    write the case of a seed to FOLDER
-  reference compare PROGRAM COUNT [FIRST_SEED]  compare PROGRAM with the reference";
+  reference listing FOLDER                        print the listing of FOLDER/plan.txt and run.txt
+  reference case SEED FOLDER                      write the case of a seed to FOLDER
+  reference compare PROGRAM COUNT [FIRST_SEED]    compare PROGRAM with the reference
+  reference histories-listing FOLDER              print the histories of FOLDER/plan.txt
+  reference histories-case SEED FOLDER            write the plan of a seed to FOLDER
+  reference histories PROGRAM COUNT [FIRST_SEED]  compare PROGRAM with the reference's histories";
 
 /// "A file that can't be opened counts as empty." Where a read fails later, what was read before
 /// is the file.
@@ -36,14 +40,12 @@ fn file(folder: &str, name: &str) -> Vec<u8> {
     bytes
 }
 
-fn print_listing(folder: &str) -> io::Result<bool> {
-    let listing = listing::listing(&file(folder, "plan.txt"), &file(folder, "run.txt"));
+fn print(listing: listing::Listing) -> io::Result<bool> {
     io::stdout().lock().write_all(&listing.bytes)?;
     Ok(true)
 }
 
-fn write_case(seed: u64, folder: &str) -> io::Result<bool> {
-    let case = cases::case(seed);
+fn write_case(case: cases::Case, folder: &str) -> io::Result<bool> {
     compare::write_case(&case, Path::new(folder))?;
     println!("{}", case.class);
     Ok(true)
@@ -56,16 +58,20 @@ fn usage() -> io::Result<bool> {
 
 fn command(arguments: &[&str]) -> io::Result<bool> {
     let number = |text: &str| text.parse::<u64>().ok();
+    let plan = |folder: &str| file(folder, "plan.txt");
     match *arguments {
-        ["listing", folder] => print_listing(folder),
-        ["case", seed, folder] => match number(seed) {
-            Some(seed) => write_case(seed, folder),
+        ["listing", folder] => print(listing::listing(&plan(folder), &file(folder, "run.txt"))),
+        ["histories-listing", folder] => print(histories::text(&plan(folder))),
+        [what @ ("case" | "histories-case"), seed, folder] => match number(seed) {
+            Some(seed) if what == "case" => write_case(cases::case(seed), folder),
+            Some(seed) => write_case(cases::histories_case(seed), folder),
             None => usage(),
         },
-        ["compare", program, count, ref first @ ..] if first.len() < 2 => {
+        [what @ ("compare" | "histories"), program, count, ref first @ ..] if first.len() < 2 => {
+            let kind = if what == "compare" { &compare::RUN } else { &compare::HISTORIES };
             let first = first.first().map_or(Some(0), |first| number(first));
             match (number(count), first) {
-                (Some(count), Some(first)) => compare::compare(program, count, first),
+                (Some(count), Some(first)) => compare::compare(kind, program, count, first),
                 _ => usage(),
             }
         }

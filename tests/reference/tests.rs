@@ -1,14 +1,15 @@
-//! Document 01's short table and plan K, cams, agreements, presses of one and two nodes, and
-//! refusals worked out by hand, and the premise of demand 3.
+//! Document 01's short table and plan K, cams, agreements, presses of one and two nodes, fault
+//! histories, and refusals worked out by hand, and the premise of demand 3.
 
 use std::collections::{BTreeMap, BTreeSet};
 
 use super::calls;
-use super::cases::{case, class_of, CLASSES};
+use super::cases::{case, class_of, histories_case, CLASSES, HISTORIES_CLASSES};
 use super::frame::{
     cam, cam_entry, fault_length, limit, message_length, plane, task_result, Memory, System,
 };
 use super::generate::plan_text;
+use super::histories;
 use super::listing::listing;
 use super::plan::{parse, read, refuse, Action, Plan, Row, LINE};
 
@@ -1181,8 +1182,209 @@ fn within_the_premise_the_system_is_the_single_controller() {
     }
 }
 
+/// Plan K's histories of length 3. In each frame two of three must work. R is 3, so a node that
+/// was bad does not work again within three frames, and at most one node is ever bad: none, or one
+/// of three in one or more of three frames, 1 + 3 x 7.
+#[rustfmt::skip]
+const K_HISTORIES: [[u8; 3]; 22] = [
+    [0, 0, 0], [0, 0, 1], [0, 0, 2], [0, 0, 4], [0, 1, 0], [0, 1, 1], [0, 2, 0], [0, 2, 2],
+    [0, 4, 0], [0, 4, 4], [1, 0, 0], [1, 0, 1], [1, 1, 0], [1, 1, 1], [2, 0, 0], [2, 0, 2],
+    [2, 2, 0], [2, 2, 2], [4, 0, 0], [4, 0, 4], [4, 4, 0], [4, 4, 4],
+];
+
+/// A plan with these nodes and this recovery period.
+fn press(nodes: usize, period: usize) -> Plan {
+    let rows = match period {
+        1 => with(&ONE_CELL, 4, [20, 0, 0, 0, 0, 0]),
+        2 => ONE_CELL.to_vec(),
+        _ => K.to_vec(),
+    };
+    let plan = read(&plan_text(&changed(&rows, 1, &[(1, nodes as u64)]))).unwrap();
+    assert_eq!(plan.period, period.min(3));
+    Plan { period, ..plan }
+}
+
+/// Answer, count and buffer of a call for histories; the buffer held 255s.
+fn listed(plan: Option<&Plan>, length: usize, bytes: usize) -> (u64, usize, Vec<u8>) {
+    let (mut buffer, mut count) = (vec![255; bytes], 9);
+    let answer = calls::plan_histories(plan, length, &mut buffer, &mut count);
+    (answer, count, buffer)
+}
+
+/// "They fill the front of a lent buffer, one byte a mask, the rest unchanged, and their count is
+/// given; a short buffer is refusal 8."
+#[test]
+fn histories_of_k() {
+    let (plan, whole) = (calls::plan_of(&k_words()), K_HISTORIES.concat());
+    assert_eq!(listed(plan.as_ref(), 3, 66), (0, 22, whole.clone()));
+    assert_eq!(listed(plan.as_ref(), 3, 67), (0, 22, [whole.clone(), vec![255]].concat()));
+    assert_eq!(listed(plan.as_ref(), 3, 166), (0, 22, [whole, vec![255; 100]].concat()));
+    for short in [0, 1, 3, 22, 63, 65] {
+        assert_eq!(listed(plan.as_ref(), 3, short), (8, 0, vec![255; short]));
+    }
+    assert_eq!(listed(plan.as_ref(), 1, 5), (0, 4, vec![0, 1, 2, 4, 255]));
+    // Of two frames 1 + 3 x 3.
+    let two = [[0, 0], [0, 1], [0, 2], [0, 4], [1, 0], [1, 1], [2, 0], [2, 2], [4, 0], [4, 4]];
+    assert_eq!(listed(plan.as_ref(), 2, 20), (0, 10, two.concat()));
+}
+
+/// Of three and four nodes one may be out, of five two. A node that was bad is out for R frames
+/// more, so a frame and the R before it have at most one bad node among them, or two.
+///
+/// R = 1. Let a, b and c count the histories whose last mask is none, a given one, a given two. One
+/// frame: 1, 1, 1. Then a becomes the sum of all; b becomes a + b (three and four nodes), or a + 5b
+/// + 4c; c becomes a + 2b + c. Three nodes, a + 3b: 4, 10, 28, 76. Four, a + 4b: 5, 13, 41, 121.
+/// Five, a + 5b + 10c: 16, 106, 916, 7396.
+///
+/// R of 3 and more: the nodes that are ever bad are at most one, or two. In three frames 1 + 3 x 7,
+/// 1 + 4 x 7, 1 + 5 x 7 + 10 x 7 x 7; in four 15 in place of 7. R = 2 is the same in three.
+///
+/// R = 2, four frames: the masks of frames 1 and 2 together have none, one or two bad nodes, and
+/// the first and the last mask are each free beside them. Three nodes 4 x 4 + 3 x 3 x 2 x 2, four
+/// 5 x 5 + 4 x 3 x 2 x 2, five 16 x 16 + 5 x 3 x 10 x 10 + 10 x 9 x 4 x 4.
+#[rustfmt::skip]
+const COUNTED: [(usize, usize, [usize; 4]); 9] = [
+    (3, 1, [4, 10, 28, 76]), (4, 1, [5, 13, 41, 121]), (5, 1, [16, 106, 916, 7396]),
+    (3, 2, [4, 10, 22, 52]), (4, 2, [5, 13, 29, 73]), (5, 2, [16, 106, 526, 3196]),
+    (3, 3, [4, 10, 22, 46]), (4, 3, [5, 13, 29, 61]), (5, 3, [16, 106, 526, 2326]),
+];
+
+#[test]
+fn histories_counted_by_hand() {
+    for (nodes, period, counts) in COUNTED {
+        let plan = press(nodes, period);
+        for (length, count) in (1..).zip(counts) {
+            let (answer, given, _) = listed(Some(&plan), length, count * length);
+            assert_eq!((answer, given), (0, count), "{nodes} nodes, R = {period}, {length} frames");
+            let (answer, given, buffer) = listed(Some(&plan), length, count * length - 1);
+            assert_eq!((answer, given), (8, 0));
+            assert!(buffer.iter().all(|&byte| byte == 255));
+        }
+    }
+}
+
+/// More than half of one is one, of two two: no node may be bad.
+#[test]
+fn histories_of_one_and_two_nodes() {
+    for nodes in [1, 2] {
+        for (period, length) in
+            (1..=3).flat_map(|period| (1..=4).map(move |length| (period, length)))
+        {
+            let plan = press(nodes, period);
+            assert_eq!(listed(Some(&plan), length, length), (0, 1, vec![0; length]));
+            assert_eq!(listed(Some(&plan), length, length - 1), (8, 0, vec![255; length - 1]));
+        }
+    }
+}
+
+/// Without a fault first, ascending and each one time; what begins a history is one.
+#[test]
+fn histories_ascend_and_begin_with_histories() {
+    for (nodes, period) in (1..=5).flat_map(|nodes| (1..=4).map(move |period| (nodes, period))) {
+        let plan = press(nodes, period);
+        let mut shorter = BTreeSet::from([Vec::new()]);
+        for length in 1..=4 {
+            let list = histories::histories(&plan, length).unwrap();
+            let list: Vec<_> = list.chunks(length).map(<[u8]>::to_vec).collect();
+            assert_eq!(list[0], vec![0; length]);
+            assert!(list.windows(2).all(|two| two[0] < two[1]));
+            assert!(list.iter().all(|history| shorter.contains(&history[..length - 1])));
+            assert!(list.iter().flatten().all(|&mask| usize::from(mask) < 1 << nodes));
+            shorter = list.into_iter().collect();
+        }
+    }
+}
+
+/// The histories are the lists of masks that meet demand 3's premise.
+#[test]
+fn histories_are_within_the_premise() {
+    for (nodes, period) in (1..=5).flat_map(|nodes| (1..=4).map(move |period| (nodes, period))) {
+        let plan = press(nodes, period);
+        for length in 1..=if nodes == 5 { 3 } else { 4 } {
+            let mut within = Vec::new();
+            for list in 0..1u64 << nodes * length {
+                let mask = |frame: usize| list >> nodes * (length - 1 - frame) & (1 << nodes) - 1;
+                let masks: Vec<_> = (0..length).map(mask).collect();
+                if premise(&plan, &masks) {
+                    within.extend(masks.iter().map(|&mask| mask as u8));
+                }
+            }
+            assert!(histories::histories(&plan, length).unwrap() == within);
+        }
+    }
+}
+
+/// Which periods make no difference: the lists are made with R, however long.
+#[test]
+fn histories_of_long_periods() {
+    for (nodes, period) in (1..=5).flat_map(|nodes| [1, 2, 3, 4, 5, 6, 513].map(|r| (nodes, r))) {
+        let plan = press(nodes, period);
+        for length in 1..=if nodes == 5 && period < 5 { 3 } else { 4 } {
+            let list = histories::all(nodes, period, length);
+            assert!(histories::histories(&plan, length).unwrap() == list);
+        }
+    }
+}
+
+/// 11 "after 7 and before 8"; beside a refusal the count is 0 and the buffer as it was.
+#[test]
+fn order_of_refusals_of_histories() {
+    let refused = |answer: u64, bytes: usize| (answer, 0, vec![255; bytes]);
+    let outside = [0, 5, 6, 256, 257, 260, (1 << 32) + 3, 1 << 63, (1 << 63) + 1, usize::MAX];
+    let five = press(5, 1);
+    for bytes in [0, 1, 4, 29_583, 29_584, 40_000] {
+        for length in outside {
+            assert_eq!(listed(None, length, bytes), refused(7, bytes));
+            assert_eq!(listed(Some(&five), length, bytes), refused(11, bytes));
+        }
+        for length in [1, 2, 3, 4] {
+            assert_eq!(listed(None, length, bytes), refused(7, bytes));
+            for nodes in [6, 7] {
+                assert_eq!(listed(Some(&press(nodes, 3)), length, bytes), refused(11, bytes));
+            }
+        }
+        let fits = bytes >= 29_584;
+        assert_eq!(listed(Some(&five), 4, bytes).0, if fits { 0 } else { 8 });
+    }
+}
+
+/// "One a line, masks in width 4, or the refusal as a run does."
+#[test]
+fn text_of_histories() {
+    let text = |plan: &[u8]| String::from_utf8(histories::text(plan).bytes).unwrap();
+    let line = |[a, b, c]: [u8; 3]| format!("{a:4}{b:4}{c:4}\n");
+    assert_eq!(text(&plan_text(&K)), K_HISTORIES.map(line).concat());
+    let of = |nodes: u64| text(&plan_text(&changed(&K, 1, &[(1, nodes)])));
+    assert_eq!([1, 2].map(of), ["   0   0   0\n"; 2]);
+    assert_eq!([6, 7].map(of), ["  11       0\n"; 2]);
+    assert_eq!([0, 8].map(of), ["   3       1\n"; 2]);
+    let five = of(5);
+    assert_eq!((five.len(), five.lines().count()), (13 * 526, 526));
+    // Two of five nodes, 3 and 4, are out in all frames.
+    assert_eq!(five.lines().last(), Some("  24  24  24"));
+    assert_eq!(text(b""), "   1       0\n");
+    // Six nodes and no recovery period, or a fault in line 4.
+    let six = changed(&K, 1, &[(1, 6)]);
+    assert_eq!(text(&plan_text(&without(&six, 6))), "   6       0\n");
+    assert_eq!(text(&plan_text(&changed(&six, 4, &[(2, 2)]))), "   5       4\n");
+}
+
+/// The plans for the histories program have each number of nodes, with R of 1, of 2 and longer.
+#[test]
+fn histories_of_all_presses() {
+    let mut seen = BTreeMap::new();
+    for case in (0..1500).map(histories_case) {
+        if let Ok(plan) = read(&case.plan.unwrap_or_default()) {
+            *seen.entry((plan.nodes, plan.period.min(3))).or_insert(0) += 1;
+        }
+    }
+    println!("plans by nodes and recovery period {seen:?}");
+    assert!(seen.len() == 21 && seen.values().all(|&plans| plans > 10));
+}
+
 #[test]
 fn classes_share_100_seeds() {
     assert_eq!(CLASSES.iter().map(|(_, seeds)| seeds).sum::<u64>(), 100);
+    assert_eq!(HISTORIES_CLASSES.iter().map(|(_, seeds)| seeds).sum::<u64>(), 100);
     assert_eq!(parse(b"").err(), refuse::<()>(1, 0).err());
 }

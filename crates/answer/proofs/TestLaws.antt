@@ -17,6 +17,7 @@ use Rattle.answer.specs.declared.Answer.the-variants.{
   WrongLength,
   MaskOrCount,
   RunLine,
+  NodesOrLength,
 }
 use Rattle.answer.specs.Refusal.{numberOf, lineOf}
 use Rattle.answer.specs.Tests.{Test, numberIn, lineIn, passed, answerOf, answered}
@@ -34,6 +35,7 @@ answerOf-back InvalidPlan = refl
 answerOf-back WrongLength = refl
 answerOf-back MaskOrCount = refl
 answerOf-back (RunLine line) = refl
+answerOf-back NodesOrLength = refl
 
 pub answer-fixed : (a b : Answer) → numberOf a ≡ numberOf b → lineOf a ≡ lineOf b → a ≡ b
 answer-fixed a b e f = sym (answerOf-back a) ∙ ap₂ answerOf e f ∙ answerOf-back b

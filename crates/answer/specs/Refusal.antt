@@ -1,4 +1,5 @@
--- Document 01, 'Who can cause which refusal': "A refusal gives its number and a line from 1; 0 where no line is meant."
+-- Document 01, 'Who can cause which refusal': "A refusal gives its number and a line from 1; 0 where no line is meant." Document 02, 2026-05: "Numbers that a request adds count
+-- in demand 1 as 1 to 10 do, with line 0."
 use Prim.Native.Nat.{ℕ}
 use Rattle.answer.specs.declared.Answer.{Answer}
 use Rattle.answer.specs.declared.Answer.the-variants.{
@@ -13,6 +14,7 @@ use Rattle.answer.specs.declared.Answer.the-variants.{
   WrongLength,
   MaskOrCount,
   RunLine,
+  NodesOrLength,
 }
 
 -- the refusal's number; 0 for a call that is not refused
@@ -28,6 +30,7 @@ numberOf InvalidPlan = 7
 numberOf WrongLength = 8
 numberOf MaskOrCount = 9
 numberOf (RunLine line) = 10
+numberOf NodesOrLength = 11
 
 -- its line; refusal 3 is of the first line only
 abbrev pub lineOf : Answer → ℕ
@@ -42,3 +45,4 @@ lineOf InvalidPlan = 0
 lineOf WrongLength = 0
 lineOf MaskOrCount = 0
 lineOf (RunLine line) = line
+lineOf NodesOrLength = 0

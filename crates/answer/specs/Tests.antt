@@ -18,6 +18,7 @@ use Rattle.answer.specs.declared.Answer.the-variants.{
   WrongLength,
   MaskOrCount,
   RunLine,
+  NodesOrLength,
 }
 
 -- a test: the number and the line of its refusal, and whether it is passed
@@ -55,7 +56,8 @@ answerOf number line =
     (cond (eqb number 7) InvalidPlan
     (cond (eqb number 8) WrongLength
     (cond (eqb number 9) MaskOrCount
-    (cond (eqb number 10) (RunLine line) Done)))))))))
+    (cond (eqb number 10) (RunLine line)
+    (cond (eqb number 11) NodesOrLength Done))))))))))
 
 -- a call's answer, and the value that it gives or keeps
 unfoldable pub answered : List Test → Answer

@@ -17,6 +17,8 @@ pub enum Answer {
     MaskOrCount,
     // The run file's author: a line of the run.
     RunLine(usize),
+    // The calling program: more nodes, or another length, than histories are listed for.
+    NodesOrLength,
 }
 
 impl Answer {
@@ -35,6 +37,7 @@ impl Answer {
             Answer::WrongLength => 8,
             Answer::MaskOrCount => 9,
             Answer::RunLine(_) => 10,
+            Answer::NodesOrLength => 11,
         }
     }
 
@@ -53,6 +56,7 @@ impl Answer {
             Answer::InvalidPlan => 0,
             Answer::WrongLength => 0,
             Answer::MaskOrCount => 0,
+            Answer::NodesOrLength => 0,
         }
     }
 }

@@ -1,14 +1,17 @@
 -- Laws of bits.
 use mathlib.Core.Path.{_≡_, refl, sym, ap, _∙_}
-use mathlib.Core.Bool.{true, false, _&&_, _||_}
-use Prim.Native.Nat.{ℕ, zero, suc, _-_, _*_, _/_, _%_, _^_, _≤_, _<_}
+use mathlib.Core.Bool.{Bool, true, false, not, cond, _&&_, _||_}
+use Prim.Native.Nat.{ℕ, zero, suc, _+_, _-_, _*_, _/_, _%_, _^_, _≤_, _<_}
 use native.Mathlib.Omega.{arith}
 use native.Mathlib.Nat.{pow-succ', pow-zero, one-le-pow, two-pow-succ, zero-div, div-one, div-div-eq-div-mul, div-lt-iff-lt-mul}
 use lib.Dec.{eqb, ltb, lit<, leb·suc-suc}
 use lib.Bits.{bitAnd, bitOr, and-shr, or-shr, and-mod, or-mod}
+use lib.Count.{ones, ones-step, ones-ones}
 use borrow.Author.Tests.{eq-eqb, ne-eqb, eqb-false, lt-ltb, le-ltb, ltb-true, ltb-false}
 use Rattle.array.specs.Bit.{bit}
+use Rattle.array.specs.Index.{howMany}
 use Rattle.array.proofs.TestLaws.{split}
+use Rattle.array.proofs.IndexLaws.{howMany-none, howMany-first, howMany-same}
 
 -- one binary digit
 digit-and : (x y : ℕ) → x < 2 → y < 2 → eqb (bitAnd x y) 1 ≡ (eqb x 1 && eqb y 1)
@@ -78,6 +81,23 @@ bit-ones (suc n) (suc i) =
     bit-next (2 ^ suc n - 1) i ∙ ap (λ (w : ℕ). bit w i) half ∙ bit-ones n i ∙ sym (leb·suc-suc (suc i) n)
 
 -- ---- a mask of n bits
+
+-- those that are not set, and those that are
+pub ones-clear : (n w : ℕ) → w < 2 ^ n → howMany (λ i. not (bit w i)) n + ones w ≡ n
+ones-clear zero w l =
+    let z : w ≡ 0 = omega (arith, rw pow-zero at l) in
+    omega (arith, howMany-none (λ i. not (bit w i)), ap ones z, ones-ones 0)
+ones-clear (suc n) w l =
+    let rest : howMany (λ i. not (bit (w / 2) i)) n + ones (w / 2) ≡ n = ones-clear n (w / 2) (omega (arith, two-pow-succ n)) in
+    let later : howMany (λ i. not (bit w (suc i))) n ≡ howMany (λ i. not (bit (w / 2) i)) n =
+    howMany-same (λ i. not (bit w (suc i))) (λ i. not (bit (w / 2) i)) n (λ i k. ap not (bit-next w i)) in
+    let own : cond (not (bit w 0)) 1 0 + w % 2 ≡ 1 = ap (λ (b : Bool). cond (not b) 1 0 + w % 2) (bit-first w) ∙ digit (w % 2) (omega arith) in
+    omega (arith, howMany-first (λ i. not (bit w i)) n, later, own, rest, ones-step w)
+  where
+    digit : (x : ℕ) → x < 2 → cond (not (eqb x 1)) 1 0 + x ≡ 1
+    digit zero k = refl
+    digit (suc zero) k = refl
+    digit (suc (suc x)) k = absurd (omega arith)
 
 -- with none of them set it is 0
 pub mask-none : (nodes mask : ℕ) → mask < 2 ^ nodes → ((i : ℕ) → i < nodes → bit mask i ≡ false) → mask ≡ 0

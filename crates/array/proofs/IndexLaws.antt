@@ -136,12 +136,23 @@ module _ (q : ℕ → Bool) where
       last : q n ≡ true
       last = split (q n) (λ e. e) (λ e. absurd (omega (arith, h, howMany-bound n, ap {B = ℕ} (λ (b : Bool). cond b 1 0) e)))
 
+  -- the first apart from those after it
+  pub howMany-first : (n : ℕ) → howMany q (suc n) ≡ cond (q 0) 1 0 + howMany (λ i. q (suc i)) n
+  unfolding howMany
+  howMany-first zero = omega arith
+  howMany-first (suc n) = omega (arith, howMany-first n)
+
   pub howMany-every : (n : ℕ) → ((k : ℕ) → k < n → q k ≡ true) → howMany q n ≡ n
   unfolding howMany
   howMany-every zero f = refl
   howMany-every (suc n) f = rw (f n (omega arith)) (omega (arith, howMany-every n (λ k l. f k (omega arith))))
 
 module _ (q r : ℕ → Bool) where
+  pub howMany-same : (n : ℕ) → ((i : ℕ) → i < n → q i ≡ r i) → howMany q n ≡ howMany r n
+  unfolding howMany
+  howMany-same zero e = refl
+  howMany-same (suc n) e = rw (howMany-same n (λ i l. e i (omega arith)), e n (omega arith))
+
   pub howMany-le : (n : ℕ) → ((k : ℕ) → k < n → q k ≡ true → r k ≡ true) → howMany q n ≤ howMany r n
   unfolding howMany
   howMany-le zero f = omega arith

@@ -1,11 +1,11 @@
 -- Laws of a part written into a buffer.
 use mathlib.Core.Path.{_≡_, sym, ap, _∙_, subst}
-use mathlib.Core.List.{List, [], _++_, append-assoc}
-use Prim.Native.Nat.{ℕ, _+_, _≤_, _<_}
+use mathlib.Core.List.{List, [], _∷_, _++_, append-assoc}
+use Prim.Native.Nat.{ℕ, suc, _+_, _≤_, _<_}
 use native.Mathlib.Omega.{arith}
 use native.Mathlib.Nat.{add-zero}
-use lib.ListN.{length, getD, take, drop, length-append, length-take, length-drop, take-append-drop, List·getD-append}
-use lib.Seq.{getD-append-add, getD-take, getD-drop, length-take-le, take-at, drop-at, drop-drop}
+use lib.ListN.{length, getD, take, drop, set, length-append, length-take, length-drop, take-append-drop, List·getD-append}
+use lib.Seq.{getD-append-add, getD-take, getD-drop, length-take-le, take-at, drop-at, drop-drop, set-split, take-set-le}
 use Rattle.array.specs.Place.{placed}
 
 module _ (s : List ℕ) (at : ℕ) where
@@ -53,6 +53,14 @@ placed-more s at t u l =
 pub placed-next :
     (s : List ℕ) (at : ℕ) (t xs u : List ℕ) (a : ℕ) → xs ≡ placed s at t → a ≡ at + length t → at ≤ length s → placed xs a u ≡ placed s at (t ++ u)
 placed-next s at t xs u a h e l = rw (h, e) (placed-more s at t u l)
+
+-- one entry stored before a part is placed in front of it: parts that are written from their end
+pub placed-before-last : (s : List ℕ) (at : ℕ) (t : List ℕ) (a b : ℕ) → a ≡ at + length t → a < length s → placed (set s a b) at t ≡ placed s at (t ++ (b ∷ []))
+placed-before-last s at t a b e l =
+    let n : at + length (t ++ (b ∷ [])) ≡ suc a = omega (arith, length-append t (b ∷ []), e) in
+    let own : drop a (set s a b) ≡ b ∷ drop (suc a) s =
+    ap (λ (x : List ℕ). drop a x) (set-split s a b l) ∙ drop-at (take a s) (b ∷ drop (suc a) s) a (length-take-le a s (omega arith)) in
+    rw (n, ← e, own, take-set-le at s a b (omega (arith, e))) (ap (λ (x : List ℕ). take at s ++ x) (sym (append-assoc t (b ∷ []) (drop (suc a) s))))
 
 -- ---- a part that is lent and comes back
 

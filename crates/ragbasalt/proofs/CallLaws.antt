@@ -25,6 +25,8 @@ use Rattle.plan_grammar.proofs.MeantLaws.{zero-refused}
 use Rattle.plan_text.proofs.TextLaws.{read-plan}
 use Rattle.plan_text.specs.declared.TextWritten.{TextWritten}
 use Rattle.plan_text.specs.declared.PlanRead.{PlanRead}
+use Rattle.history.specs.declared.HistoriesListed.{HistoriesListed}
+use Rattle.history.specs.Answers.{historiesAnswer, historiesPlace}
 use Rattle.plan_text.specs.Answers.{readAnswer, readPeriod, writeAnswer, writePlace}
 use Rattle.plan_grammar.specs.Refused.{textRefusal}
 use Rattle.plan_grammar.specs.Meant.{zeroPlan, planOf}
@@ -42,7 +44,7 @@ use Rattle.system.specs.System.{powerOn, systemPowerOnAnswer}
 use Rattle.system.specs.Frame.{maskOk, countsOk, lengthsOk, singleTests, singleAnswer, singlePlaceAfter, frameTests as systemTests, frameAnswer, framePlace, workingTests as systemWorkingTests, workingAnswer, equalTests as systemEqualTests, equalAnswer}
 use Rattle.system_words.specs.Words.{codeOf, memoryOfWords, patternCount, rowsOk, systemOfWords, countersOf, patternsOf, countsAlone}
 use Rattle.system_words.proofs.WordsLaws.{rows-lengths, counters-back, patterns-back, good-back}
-use Rattle.ragbasalt.specs.Calls.{readCall, wordsTests, countGiven, placeGiven, textGiven, memoryGiven, voteGiven, singleGiven, rowsGiven, frameGiven, writeCall, checkCall, periodCall, sizeCall, nodeTests, cellsRefused, memoryCall, agreedCall, placeCall, powerOnCall, computeCall, voteCall, messageCall, setpointsCall, singleRight, singleCall, countsTests, rowsRight, startCallTests, startCall, frameCallTests, frameCall, equalCallTests, equalCall, workingCallTests, workingCall}
+use Rattle.ragbasalt.specs.Calls.{readCall, wordsTests, countGiven, placeGiven, textGiven, historiesGiven, memoryGiven, voteGiven, singleGiven, rowsGiven, frameGiven, writeCall, historiesCall, checkCall, periodCall, sizeCall, nodeTests, cellsRefused, memoryCall, agreedCall, placeCall, powerOnCall, computeCall, voteCall, messageCall, setpointsCall, singleRight, singleCall, countsTests, rowsRight, startCallTests, startCall, frameCallTests, frameCall, equalCallTests, equalCall, workingCallTests, workingCall}
 
 -- ---- results by their parts
 
@@ -54,6 +56,9 @@ placed-eq e f = λ i. record { answer = e i; place = f i }
 
 pub written-eq : {a b m n : ℕ} {s t : List ℕ} → a ≡ b → s ≡ t → m ≡ n → textGiven a s m ≡ textGiven b t n
 written-eq e f g = λ i. record { answer = e i; text = f i; count = g i }
+
+pub listed-eq : {a b m n : ℕ} {s t : List ℕ} → a ≡ b → s ≡ t → m ≡ n → historiesGiven a s m ≡ historiesGiven b t n
+listed-eq e f g = λ i. record { answer = e i; masks = f i; count = g i }
 
 pub stored-eq : {a b m n : ℕ} {s t : List ℕ} → a ≡ b → m ≡ n → s ≡ t → memoryGiven a m s ≡ memoryGiven b n t
 stored-eq e f g = λ i. record { answer = e i; counter = f i; cells = g i }
@@ -353,6 +358,16 @@ module _ (words : List ℕ) {p : Plan} (is : p ≡ planOfWords words) where
   write-made out e f =
       let h = rw is at e in
       written-eq (f ∙ ap (λ (z : TextWritten). codeOf (z .answer)) (h .0)) (h .1) (ap (λ (z : TextWritten). z .count) (h .0))
+
+  pub histories-made :
+      (frames : ℕ) (out : List ℕ) {o : HistoriesListed} {n : ℕ} {y : List ℕ} →
+      (o ≡ historiesAnswer p frames (length out)) × (y ≡ historiesPlace p frames out) →
+      n ≡ codeOf (o .answer) →
+      historiesGiven n y (o .count) ≡ historiesCall words frames out
+  unfolding historiesCall
+  histories-made frames out e f =
+      let h = rw is at e in
+      listed-eq (f ∙ ap (λ (z : HistoriesListed). codeOf (z .answer)) (h .0)) (h .1) (ap (λ (z : HistoriesListed). z .count) (h .0))
 
   pub size-none : (size : Plan → ℕ) → accepted p ≡ false → 0 ≡ sizeCall size words
   unfolding sizeCall planTests ifPassed passed

@@ -17,6 +17,7 @@ use Rattle.plan_grammar.specs.Refused.{textRefusal}
 use Rattle.plan_grammar.specs.Meant.{planOf}
 use Rattle.plan_text.specs.Answers.{readAnswer, writeAnswer, writePlace}
 use Rattle.plan_words.specs.Words.{planSize, planWords, planOfWords}
+use Rattle.history.specs.Answers.{historiesAnswer, historiesPlace}
 use Rattle.memory.specs.declared.Memory.{Memory}
 use Rattle.memory.specs.Node.{poweredOn, computed, messageOf, voted, voteAgreement, setpoint}
 use Rattle.memory.specs.Size.{messageSize, mailboxSize}
@@ -39,6 +40,11 @@ pub record PlaceGiven : Type 0 where
 pub record TextGiven : Type 0 where
   pub answer : ℕ
   pub text : List ℕ
+  pub count : ℕ
+
+pub record HistoriesGiven : Type 0 where
+  pub answer : ℕ
+  pub masks : List ℕ
   pub count : ℕ
 
 pub record MemoryGiven : Type 0 where
@@ -81,6 +87,9 @@ placeGiven answer place = record { answer = answer; place = place }
 abbrev pub textGiven : ℕ → List ℕ → ℕ → TextGiven
 textGiven answer text count = record { answer = answer; text = text; count = count }
 
+abbrev pub historiesGiven : ℕ → List ℕ → ℕ → HistoriesGiven
+historiesGiven answer masks count = record { answer = answer; masks = masks; count = count }
+
 abbrev pub memoryGiven : ℕ → ℕ → List ℕ → MemoryGiven
 memoryGiven answer counter cells = record { answer = answer; counter = counter; cells = cells }
 
@@ -112,6 +121,11 @@ unfoldable pub writeCall : List ℕ → List ℕ → TextGiven
 writeCall words out =
     textGiven (codeOf (writeAnswer (planOfWords words) (length out) .answer)) (writePlace (planOfWords words) out)
     (writeAnswer (planOfWords words) (length out) .count)
+
+unfoldable pub historiesCall : List ℕ → ℕ → List ℕ → HistoriesGiven
+historiesCall words frames out =
+    historiesGiven (codeOf (historiesAnswer (planOfWords words) frames (length out) .answer)) (historiesPlace (planOfWords words) frames out)
+    (historiesAnswer (planOfWords words) frames (length out) .count)
 
 unfoldable pub checkCall : List ℕ → ℕ
 checkCall words = codeOf (checked (planOfWords words))

@@ -9,7 +9,7 @@ ghost use Rattle.system.specs.Fault.{faultsSize};
 ghost use Rattle.answer.specs.Tests.{answered};
 ghost use mathlib.Core.Bool.{false};
 ghost use Rattle.system_words.specs.Words.{codeOf};
-ghost use Rattle.ragbasalt.specs.Calls.{countGiven, placeGiven, textGiven, memoryGiven, voteGiven, singleGiven, rowsGiven, frameGiven, readCall, writeCall, checkCall, periodCall, sizeCall, cellsRefused, powerOnCall, computeCall, voteCall, messageCall, setpointsCall, singleCall, countsTests, startCall, frameCall, equalCall, workingCall};
+ghost use Rattle.ragbasalt.specs.Calls.{countGiven, placeGiven, textGiven, historiesGiven, memoryGiven, voteGiven, singleGiven, rowsGiven, frameGiven, readCall, writeCall, historiesCall, checkCall, periodCall, sizeCall, cellsRefused, powerOnCall, computeCall, voteCall, messageCall, setpointsCall, singleCall, countsTests, startCall, frameCall, equalCall, workingCall};
 use answer::Answer;
 use plan::Plan;
 use system::System;
@@ -70,6 +70,22 @@ pub extern "C" fn ragbasalt_plan_period(plan: &[u64], period: &mut usize) -> u64
     let found = plan_period::recovery_period(p);
     *period = found.period;
     let answer = found.answer;
+    system_words::step::code(answer)
+}
+
+#[no_mangle]
+pub extern "C" fn ragbasalt_plan_histories(
+    plan: &[u64],
+    frames: usize,
+    masks: &mut [u8],
+    count: &mut usize,
+) -> u64
+    ensures { λ r. ⌜ historiesGiven r (now (masks .exit)) (now (count .exit)) ≡ historiesCall (now (plan .entry)) frames (now (masks .entry)) ⌝ }
+{
+    let p = plan_words::step::plan(plan);
+    let listed = history::histories(p, frames, masks);
+    *count = listed.count;
+    let answer = listed.answer;
     system_words::step::code(answer)
 }
 

@@ -2,7 +2,7 @@
 use mathlib.Core.Path.{_≡_, refl, sym, ap, _∙_, subst}
 use mathlib.Core.Bool.{Bool, true, false, _&&_}
 use mathlib.Core.List.{List, _++_}
-use Prim.Native.Nat.{ℕ, zero, suc, _+_, _-_, _*_, _%_, _≤_, _<_, min}
+use Prim.Native.Nat.{ℕ, suc, _+_, _-_, _*_, _%_, _≤_, _<_, min}
 use native.Mathlib.Omega.{arith}
 use native.Mathlib.Nat.{not-suc-le-zero}
 use native.Mathlib.Numerals.{add-one}
@@ -14,7 +14,7 @@ use borrow.Rule.Slice.PartMut.{putMid, same-len-mid}
 use Rattle.array.specs.Index.{howMany, allBelow, fill}
 use Rattle.array.specs.Place.{placed}
 use Rattle.array.proofs.TestLaws.{split, and-false-right, and-both}
-use Rattle.array.proofs.IndexLaws.{allBelow-more, allBelow-fails}
+use Rattle.array.proofs.IndexLaws.{allBelow-more, allBelow-fails, howMany-same}
 use Rattle.array.proofs.LoopLaws.{all-passed}
 use Rattle.array.proofs.PlacesLaws.{fill-length, fill-in, fill-same}
 use Rattle.array.proofs.PlacedLaws.{placed-before, placed-after, part-back}
@@ -273,11 +273,6 @@ module _ (count : ℕ) (m s : Memory) where
 
   pub same-more : (c : ℕ) → allBelow (λ c. eqb (getD (m .cells) c 0) (getD (s .cells) c 0)) c ≡ true → getD (m .cells) c 0 ≡ getD (s .cells) c 0 → allBelow (λ c. eqb (getD (m .cells) c 0) (getD (s .cells) c 0)) (c + 1) ≡ true
   same-more c h e = allBelow-more (λ c. eqb (getD (m .cells) c 0) (getD (s .cells) c 0)) c h (eq-eqb _ _ e)
-
-howMany-same : (q r : ℕ → Bool) (n : ℕ) → ((i : ℕ) → i < n → q i ≡ r i) → howMany q n ≡ howMany r n
-unfolding howMany
-howMany-same q r zero e = refl
-howMany-same q r (suc n) e = rw (howMany-same q r n (λ i l. e i (omega arith)), e n (omega arith))
 
 same-is : (p : Plan) (a b c d : Memory) {count : ℕ} → count ≡ p .cells → a ≡ c → b ≡ d → same count a b ≡ sameMemory p c d
 unfolding sameMemory

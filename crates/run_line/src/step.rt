@@ -141,7 +141,7 @@ pub fn line_size(sensors: usize) -> usize
 // ---- a line of the listing
 
 // Fills the column of a width at a place.
-fn put(out: &mut [u8], at: usize, width: usize, v: u64)
+pub fn put(out: &mut [u8], at: usize, width: usize, v: u64)
     requires { ⌜ (at + width ≤ length (now out)) × (width ≤ patternWidth) × (at ≤ printedSize mostActuators) ⌝ }
     ensures { λ _. ⌜ now (out .exit) ≡ placed (now (out .entry)) at (column width v) ⌝ }
 {

@@ -70,7 +70,7 @@ goodIn-is i [] = refl
 goodIn-is i (mask ∷ l) = rw (goodIn-is i l)
 
 -- where all masks are 0, every node is good
-zero-good : (i : ℕ) (l : List ℕ) → allIn zeroMask l ≡ true → goodIn i l ≡ true
+pub zero-good : (i : ℕ) (l : List ℕ) → allIn zeroMask l ≡ true → goodIn i l ≡ true
 unfolding goodIn allIn
 zero-good i [] h = refl
 zero-good i (mask ∷ l) h =
@@ -97,7 +97,7 @@ module _ (p : Plan) (accept : accepted p ≡ true) where
   premise-of-good (c ∷ cs) past h =
       (λ e. zero-most (c .mask) past (rw e at (all-past zeroMask cs (since c past) h)), premise-of-good cs (since c past) h)
 
-  mask-below : (c : Call) → (c .plan ≡ p) ⊎ (accepted (c .plan) ≡ false) → isFrame c ≡ true → c .mask < 2 ^ p .nodes
+  pub mask-below : (c : Call) → (c .plan ≡ p) ⊎ (accepted (c .plan) ≡ false) → isFrame c ≡ true → c .mask < 2 ^ p .nodes
   unfolding passed isFrame callTests maskOk
   mask-below c plan e = rw (frame-is c plan e) at (ltb-true (c .mask) (2 ^ c .plan .nodes) (and-left _ _ (and-right (accepted (c .plan)) _ e)))
 

@@ -27,6 +27,7 @@ use Rattle.answer.specs.declared.Answer.the-variants.{
   WrongLength,
   MaskOrCount,
   RunLine,
+  NodesOrLength,
 }
 use Rattle.answer.specs.Refusal.{numberOf, lineOf}
 use Rattle.plan.specs.Limits.{mostNodes, mostCells}
@@ -40,7 +41,7 @@ use Rattle.system_words.specs.Words.{codeOf, patternCount, rowsOk, nodeO
 
 -- ---- answers
 
-pub number-small : (a : Answer) → numberOf a ≤ 10
+pub number-small : (a : Answer) → numberOf a ≤ 11
 number-small Done = omega arith
 number-small TextLength = omega arith
 number-small (Malformed line) = omega arith
@@ -52,8 +53,9 @@ number-small InvalidPlan = omega arith
 number-small WrongLength = omega arith
 number-small MaskOrCount = omega arith
 number-small (RunLine line) = omega arith
+number-small NodesOrLength = omega arith
 
-pub sum-fits : (n l : ℕ) → n ≤ 10 → n + l * 256 % 18446744073709551616 < 18446744073709551616
+pub sum-fits : (n l : ℕ) → n ≤ 11 → n + l * 256 % 18446744073709551616 < 18446744073709551616
 sum-fits n l h = omega (arith, h)
 
 pub code-sum : (a : Answer) {n l : ℕ} → n ≡ numberOf a → l ≡ lineOf a → n + l * 256 % 18446744073709551616 ≡ codeOf a

@@ -1,0 +1,2 @@
+pub mod HistoriesListing
+pub mod Code

@@ -1,0 +1,4 @@
+pub mod Histories
+pub mod Answers
+pub mod Listed
+pub mod Code
