@@ -62,6 +62,11 @@ placed-before-last s at t a b e l =
     ap (λ (x : List ℕ). drop a x) (set-split s a b l) ∙ drop-at (take a s) (b ∷ drop (suc a) s) a (length-take-le a s (omega arith)) in
     rw (n, ← e, own, take-set-le at s a b (omega (arith, e))) (ap (λ (x : List ℕ). take at s ++ x) (sym (append-assoc t (b ∷ []) (drop (suc a) s))))
 
+-- what is placed at a buffer's front is what is taken of it
+pub front-taken : (s t : List ℕ) (n : ℕ) {xs : List ℕ} → length t ≡ n → n ≤ length s → xs ≡ placed s 0 t → (n ≤ length xs) × (take n xs ≡ t)
+front-taken s t n e l f =
+    (omega (arith, ap length f, placed-length s 0 t (omega (arith, e))), ap (take n) f ∙ take-at t (drop (0 + length t) s) n e)
+
 -- ---- a part that is lent and comes back
 
 pub part-back : (s t part : List ℕ) (at k : ℕ) → part ≡ t → length t ≡ k → take at s ++ (part ++ drop k (drop at s)) ≡ placed s at t

@@ -8,14 +8,14 @@ use native.Mathlib.Omega.{arith}
 use native.Mathlib.Nat.{add-zero}
 use lib.ListN.{length, take, drop, getD, set, length-append, length-set}
 use lib.Dec.{leb}
-use lib.Seq.{set-split, take-at}
+use lib.Seq.{set-split}
 use borrow.Author.Tests.{le-leb}
 use borrow.Rule.Slice.PartMut.{putMid}
 use Rattle.array.specs.Index.{joined, from}
 use Rattle.array.specs.Place.{placed}
 use Rattle.array.proofs.TestLaws.{split}
 use Rattle.array.proofs.PlacesLaws.{joined-none, joined-more, joined-length, joined-same}
-use Rattle.array.proofs.PlacedLaws.{placed-none, placed-next, placed-length, part-back}
+use Rattle.array.proofs.PlacedLaws.{placed-none, placed-next, placed-length, front-taken, part-back}
 use Rattle.column.specs.Column.{column}
 use Rattle.column.specs.Row.{row}
 use Rattle.column.proofs.ColumnLaws.{column-length}
@@ -184,10 +184,6 @@ module _ (text : List ℕ) where
       cases (some a) q = λ n. absurd (refusal-numbered text a q n)
 
 -- ---- the front of the buffer
-
-pub front-taken : (s t : List ℕ) (n : ℕ) {xs : List ℕ} → length t ≡ n → n ≤ length s → xs ≡ placed s 0 t → (n ≤ length xs) × (take n xs ≡ t)
-front-taken s t n {xs} e l f =
-    (omega (arith, ap length f, placed-length s 0 t (omega (arith, e))), ap (take n) f ∙ take-at t (drop (0 + length t) s) n e)
 
 pub refusal-taken : (s : List ℕ) (a : Answer) {xs : List ℕ} → refusalSize ≤ length s → xs ≡ placed s 0 (refusalLine a) → (refusalSize ≤ length xs) × (take refusalSize xs ≡ refusalLine a)
 refusal-taken s a l f = front-taken s (refusalLine a) refusalSize (refusal-length a) l f
