@@ -9,6 +9,7 @@ use std::sync::atomic::{AtomicU64, Ordering};
 use std::sync::Mutex;
 
 use super::cases::{case, histories_case, Case, CLASSES, HISTORIES_CLASSES, LIMITS};
+use super::check;
 use super::histories;
 use super::listing::{listing, Listing};
 
@@ -22,7 +23,7 @@ pub struct Kind {
     make: fn(u64) -> Case,
     expected: fn(&Case) -> Listing,
     classes: &'static [&'static [(&'static str, u64)]],
-    refusals: [u64; 7],
+    refusals: &'static [u64],
     lines: &'static str,
     /// From this many cases on, each class and each refusal has to come up.
     enough: u64,
@@ -34,7 +35,7 @@ pub static RUN: Kind = Kind {
     make: case,
     expected: |case| listing(&bytes(&case.plan), &bytes(&case.run)),
     classes: &[&CLASSES, &LIMITS],
-    refusals: [1, 2, 3, 4, 5, 6, 10],
+    refusals: &[1, 2, 3, 4, 5, 6, 10],
     lines: "frames compared",
     enough: 3000,
 };
@@ -45,8 +46,19 @@ pub static HISTORIES: Kind = Kind {
     make: histories_case,
     expected: |case| histories::text(&bytes(&case.plan)),
     classes: &[&HISTORIES_CLASSES],
-    refusals: [1, 2, 3, 4, 5, 6, 11],
+    refusals: &[1, 2, 3, 4, 5, 6, 11],
     lines: "histories compared",
+    enough: 1000,
+};
+
+pub static CHECK: Kind = Kind {
+    compare: "check",
+    case: "check-case",
+    make: histories_case,
+    expected: |case| check::text(&bytes(&case.plan)),
+    classes: &[&HISTORIES_CLASSES],
+    refusals: &[1, 2, 3, 4, 5, 6],
+    lines: "periods compared",
     enough: 1000,
 };
 
@@ -82,7 +94,7 @@ impl Totals {
             complete &= cases > 0;
             println!("{class:<32}{cases:>10}");
         }
-        for number in kind.refusals {
+        for &number in kind.refusals {
             let cases = self.refusals.get(&number).copied().unwrap_or(0);
             complete &= cases > 0;
             println!("{:<32}{cases:>10}", format!("refusal {number}"));

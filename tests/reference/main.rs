@@ -6,6 +6,7 @@
 #[cfg(test)]
 mod calls;
 mod cases;
+mod check;
 mod compare;
 mod damage;
 mod frame;
@@ -28,7 +29,10 @@ const USAGE: &str = "usage:
   reference compare PROGRAM COUNT [FIRST_SEED]    compare PROGRAM with the reference
   reference histories-listing FOLDER              print the histories of FOLDER/plan.txt
   reference histories-case SEED FOLDER            write the plan of a seed to FOLDER
-  reference histories PROGRAM COUNT [FIRST_SEED]  compare PROGRAM with the reference's histories";
+  reference histories PROGRAM COUNT [FIRST_SEED]  compare PROGRAM with the reference's histories
+  reference check-listing FOLDER                  print the period or refusal of FOLDER/plan.txt
+  reference check-case SEED FOLDER                write the plan of a seed to FOLDER
+  reference check PROGRAM COUNT [FIRST_SEED]      compare PROGRAM with the reference's periods";
 
 /// "A file that can't be opened counts as empty." Where a read fails later, what was read before
 /// is the file.
@@ -62,13 +66,20 @@ fn command(arguments: &[&str]) -> io::Result<bool> {
     match *arguments {
         ["listing", folder] => print(listing::listing(&plan(folder), &file(folder, "run.txt"))),
         ["histories-listing", folder] => print(histories::text(&plan(folder))),
-        [what @ ("case" | "histories-case"), seed, folder] => match number(seed) {
+        ["check-listing", folder] => print(check::text(&plan(folder))),
+        [what @ ("case" | "histories-case" | "check-case"), seed, folder] => match number(seed) {
             Some(seed) if what == "case" => write_case(cases::case(seed), folder),
             Some(seed) => write_case(cases::histories_case(seed), folder),
             None => usage(),
         },
-        [what @ ("compare" | "histories"), program, count, ref first @ ..] if first.len() < 2 => {
-            let kind = if what == "compare" { &compare::RUN } else { &compare::HISTORIES };
+        [what @ ("compare" | "histories" | "check"), program, count, ref first @ ..]
+            if first.len() < 2 =>
+        {
+            let kind = match what {
+                "compare" => &compare::RUN,
+                "histories" => &compare::HISTORIES,
+                _ => &compare::CHECK,
+            };
             let first = first.first().map_or(Some(0), |first| number(first));
             match (number(count), first) {
                 (Some(count), Some(first)) => compare::compare(kind, program, count, first),

@@ -1,0 +1,120 @@
+//! `show`: on the examples letter by letter, and on made-up runs every number beside the listing's.
+
+use std::fs;
+
+use super::cases::case;
+use super::plan;
+use super::view::folder::{followed, Accepted, Plan, RunFile};
+use super::view::listing::Run;
+use super::view::names::Names;
+use super::view::{pattern, show, text};
+use super::{each, same, Tested, Tree};
+
+pub const EXAMPLES: [&str; 5] = ["k", "press", "cutter", "numbering", "weakening"];
+
+/// A run of the reference's generator, followed by the proved program; None if its plan is refused.
+pub fn run(
+    tree: &Tree,
+    plan_text: Vec<u8>,
+    run_text: Vec<u8>,
+) -> Result<Option<(Run, Names)>, String> {
+    let Ok(read) = plan::read(&plan_text) else { return Ok(None) };
+    let rows = text::rows(&plan_text);
+    let names = Names::made_up(&rows[0]);
+    let plan =
+        Plan { file: String::from("plan.txt"), text: plan_text, named: None, is_named: false };
+    let accepted = Accepted { plan, rows, period: read.period, names: names.clone() };
+    let file = RunFile { file: String::from("run.txt"), text: run_text, named: None };
+    match followed(&accepted, &file, &tree.programs) {
+        Ok((run, _)) => Ok(Some((run, names))),
+        Err(_) => Err(String::from("the run cannot be followed")),
+    }
+}
+
+/// The table of a run, read back: frame, bad nodes, states, equal, agreement, setpoints, marks.
+fn check_table(run: &Run, names: &Names) -> Result<(), String> {
+    let table = show::table(run, names, true);
+    let lines = table.lines().skip(3).take(run.frames.len());
+    let quiet = &run.without_faults;
+    for ((frame, line), expected) in lines.enumerate().zip(&run.frames) {
+        let words: Vec<&str> = line.split_whitespace().collect();
+        let bad = (0..run.nodes()).filter(|node| run.masks[frame] >> node & 1 == 1).count();
+        let states = &words[1 + bad.max(1)..];
+        same("the frame", words[0], &frame.to_string())?;
+        same(
+            "bad nodes",
+            states[..run.nodes()].iter().filter(|state| **state == "BAD").count(),
+            bad,
+        )?;
+        same(
+            "working nodes",
+            states[..run.nodes()].iter().filter(|state| **state == "ok").count() as u64,
+            expected.working,
+        )?;
+        let rest = &states[run.nodes()..];
+        same("equal", rest[0], &expected.equal.to_string())?;
+        same("agreement", rest[1], &expected.agreement.to_string())?;
+        for (actuator, word) in rest[2..].iter().enumerate() {
+            let bits = expected.setpoints[actuator];
+            let value = word.trim_end_matches('*');
+            match f64::from_bits(bits).is_finite() {
+                true => same("a setpoint", pattern::read(value), Ok(bits))?,
+                false => same("a setpoint", value, &pattern::shown(bits))?,
+            }
+            same("a mark", word.ends_with('*'), bits != quiet[frame].setpoints[actuator])?;
+        }
+    }
+    Ok(())
+}
+
+/// Of a long run every frame whose nodes, counts or marks changed is shown.
+fn check_short_table(run: &Run, names: &Names) -> Result<(), String> {
+    let table = show::table(run, names, false);
+    let shown = |frame: usize| {
+        let word = frame.to_string();
+        table.lines().skip(3).any(|line| line.split_whitespace().next() == Some(word.as_str()))
+    };
+    for frame in 1..run.frames.len() {
+        let (before, now) = (&run.frames[frame - 1], &run.frames[frame]);
+        let marks = |frame: usize| {
+            (0..run.actuators()).map(|actuator| run.differs(frame, actuator)).collect::<Vec<_>>()
+        };
+        let changed = run.masks[frame] != run.masks[frame - 1]
+            || (before.working, before.equal, before.agreement)
+                != (now.working, now.equal, now.agreement)
+            || marks(frame) != marks(frame - 1);
+        if changed && !shown(frame) {
+            return Err(format!("frame {frame} is not shown\n{table}"));
+        }
+    }
+    Ok(())
+}
+
+pub fn all(tree: &Tree) -> Tested {
+    for example in EXAMPLES {
+        let folder = tree.root.join("examples").join(example);
+        let output = super::verbs::call(tree, &["show", &folder.display().to_string()]);
+        let expected = fs::read_to_string(folder.join("show.txt"))
+            .map_err(|error| format!("{example}/show.txt: {error}"))?;
+        same(example, output.out, expected)?;
+    }
+    let one = |seed: u64, counts: &mut [u64; 3]| {
+        let case = case(seed);
+        let (Some(plan), Some(text)) = (case.plan, case.run) else { return Ok(()) };
+        if text.len() > 400_000 {
+            return Ok(());
+        }
+        let Some((run, names)) = run(tree, plan, text)? else { return Ok(()) };
+        check_table(&run, &names)?;
+        check_short_table(&run, &names)?;
+        counts[0] += 1;
+        counts[1] += run.frames.len() as u64;
+        counts[2] += (0..run.frames.len()).filter(|&frame| run.any_differs(frame)).count() as u64;
+        Ok(())
+    };
+    let sum = each(800, one, |sum: &mut [u64; 3], count| (0..3).for_each(|i| sum[i] += count[i]))?;
+    match sum[0] > 150 && sum[2] > 500 {
+        true => Ok(format!("{} examples; {} runs of {} frames, every number and mark as listed, {} frames with a mark", EXAMPLES.len(), sum[0], sum[1], sum[2])),
+        false => Err(format!("too few runs: {sum:?}")),
+    }
+}

@@ -1,0 +1,126 @@
+//! A run as the proved program lists it, with what the nodes' masks say beside it.
+
+use super::cause::Refusal;
+use super::programs::refusal;
+use super::text::Row;
+
+/// One line of a listing.
+#[derive(Clone, PartialEq, Eq, Debug)]
+pub struct Frame {
+    pub working: u64,
+    pub equal: u64,
+    pub setpoints: Vec<u64>,
+    pub agreement: u64,
+}
+
+pub struct Listing {
+    pub frames: Vec<Frame>,
+    pub refusal: Option<Refusal>,
+}
+
+/// The listing's lines: frame (8), working (4), equal (4), setpoints (20 each), agreement (4).
+pub fn read(bytes: &[u8], actuators: usize) -> Listing {
+    let number = |part: &[u8]| std::str::from_utf8(part).ok()?.trim().parse::<u64>().ok();
+    let frame = |line: &[u8]| {
+        let end = 16 + 20 * actuators;
+        Some(Frame {
+            working: number(line.get(8..12)?)?,
+            equal: number(line.get(12..16)?)?,
+            setpoints: line.get(16..end)?.chunks(20).map(number).collect::<Option<_>>()?,
+            agreement: number(line.get(end..end + 4)?)?,
+        })
+    };
+    let frames = bytes.split(|&byte| byte == b'\n').map_while(frame).collect();
+    Listing { frames, refusal: refusal(bytes) }
+}
+
+/// What a node is in a frame, by the masks up to it and R.
+#[derive(Clone, Copy, PartialEq, Eq, Debug)]
+pub enum State {
+    Bad,
+    /// Good, and not yet for R frames before this one: how many frames it has been good, this one
+    /// among them.
+    Recovering(usize),
+    Working,
+}
+
+/// The states of all nodes in each frame: "a bad node's count becomes 0; a good one's rises by 1 up
+/// to R. A node is working in a frame if it is good in it and its count before was R."
+pub fn states(masks: impl Iterator<Item = u64>, nodes: usize, period: usize) -> Vec<Vec<State>> {
+    let mut counts = vec![period; nodes];
+    masks
+        .map(|mask| {
+            let state = |(node, count): (usize, &mut usize)| {
+                let before = *count;
+                if mask >> node & 1 == 1 {
+                    *count = 0;
+                    return State::Bad;
+                }
+                *count = period.min(before + 1);
+                if before == period {
+                    State::Working
+                } else {
+                    State::Recovering(*count)
+                }
+            };
+            counts.iter_mut().enumerate().map(state).collect()
+        })
+        .collect()
+}
+
+/// A fault: one node is bad in these frames, from the first to the last, and not in those beside.
+#[derive(Clone, Copy, PartialEq, Eq, Debug)]
+pub struct Knock {
+    pub node: usize,
+    pub first: usize,
+    pub last: usize,
+}
+
+/// The stretches of frames in which a test holds.
+pub fn stretches(count: usize, test: impl Fn(usize) -> bool) -> Vec<(usize, usize)> {
+    let mut found: Vec<(usize, usize)> = Vec::new();
+    for frame in (0..count).filter(|&frame| test(frame)) {
+        match found.last_mut() {
+            Some((_, last)) if *last + 1 == frame => *last = frame,
+            _ => found.push((frame, frame)),
+        }
+    }
+    found
+}
+
+pub fn faults(states: &[Vec<State>], nodes: usize) -> Vec<Knock> {
+    let of = |node: usize| stretches(states.len(), move |frame| states[frame][node] == State::Bad);
+    let knock = |node| move |(first, last)| Knock { node, first, last };
+    (0..nodes).flat_map(|node| of(node).into_iter().map(knock(node))).collect()
+}
+
+/// A run with everything that is shown of it.
+pub struct Run {
+    pub header: Row,
+    pub period: usize,
+    pub masks: Vec<u64>,
+    pub states: Vec<Vec<State>>,
+    pub frames: Vec<Frame>,
+    /// The same run with masks 0, by the proved program.
+    pub without_faults: Vec<Frame>,
+    pub faults: Vec<Knock>,
+}
+
+impl Run {
+    pub fn nodes(&self) -> usize {
+        self.header[1] as usize
+    }
+
+    pub fn actuators(&self) -> usize {
+        self.header[5] as usize
+    }
+
+    /// Whether a setpoint is not what a press without faults would get, by its bits.
+    pub fn differs(&self, frame: usize, actuator: usize) -> bool {
+        self.frames[frame].setpoints[actuator] != self.without_faults[frame].setpoints[actuator]
+    }
+
+    pub fn any_differs(&self, frame: usize) -> bool {
+        (0..self.actuators()).any(|actuator| self.differs(frame, actuator))
+    }
+}
