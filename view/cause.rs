@@ -21,12 +21,15 @@ pub struct Cause {
     pub refusal: Refusal,
     /// The column meant, from 0: its place in the line and its name.
     pub column: Option<(usize, Range<usize>, String)>,
+    /// Of refusal 6 the cells that never become known.
+    pub cells: Vec<usize>,
     pub words: String,
 }
 
 impl Cause {
     fn new(number: u64, line: usize, words: impl Into<String>) -> Cause {
-        Cause { refusal: Refusal { number, line }, column: None, words: words.into() }
+        let refusal = Refusal { number, line };
+        Cause { refusal, column: None, cells: Vec::new(), words: words.into() }
     }
 }
 
@@ -248,14 +251,14 @@ fn length(text: &[u8]) -> Option<String> {
         return Some(String::from("the text is empty"));
     }
     if text.len() % text::LINE != 0 {
-        let lines = text.split_inclusive(|&byte| byte == b'\n');
-        let odd = lines.enumerate().find(|(_, line)| line.len() != text::LINE);
-        let found = odd.map(|(line, bytes)| format!("; line {} has {}", line + 1, bytes.len()));
-        return Some(format!(
-            "the text has {} bytes, no multiple of 57{}",
-            text.len(),
-            found.unwrap_or_default()
-        ));
+        let mut lines = text.split_inclusive(|&byte| byte == b'\n').enumerate();
+        let odd = lines.find(|(_, line)| line.len() != text::LINE);
+        let found = odd.map_or(String::new(), |(index, line)| {
+            let ending =
+                if line.ends_with(b"\r\n") { " and ends with a carriage return" } else { "" };
+            format!("; line {} has {}{ending}", index + 1, line.len())
+        });
+        return Some(format!("the text has {} bytes, no multiple of 57{found}", text.len()));
     }
     (text.len() > text::LONGEST).then(|| {
         format!("the text has {} lines, the longest plan has 617", text.len() / text::LINE)
@@ -331,19 +334,18 @@ pub fn of_plan(text: &[u8], names: Option<&Names>) -> Option<Cause> {
     if let Some(words) = order.missing() {
         return Some(Cause::new(4, rows.len() + 1, words));
     }
-    let name = |cell: usize| match names {
+    let cells = never_known(&rows);
+    let name = |&cell: &usize| match names {
         Some(names) => names.cells[cell].clone(),
         None => cell.to_string(),
     };
-    let never: Vec<_> = never_known(&rows).into_iter().map(name).collect();
+    let never: Vec<_> = cells.iter().map(name).collect();
     let (noun, verb) = if never.len() == 1 { ("cell", "is") } else { ("cells", "are") };
-    (!never.is_empty()).then(|| {
-        let words = format!(
-            "{noun} {} {verb} never known for good, however long a node stays good: vote, or make from known cells",
-            list(&never)
-        );
-        Cause::new(6, 0, words)
-    })
+    let words = format!(
+        "{noun} {} {verb} never known for good, however long a node stays good: vote, or make from known cells",
+        list(&never)
+    );
+    (!never.is_empty()).then(|| Cause { cells, ..Cause::new(6, 0, words) })
 }
 
 /// The size of a run line.

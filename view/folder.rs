@@ -2,15 +2,17 @@
 //! themselves.
 
 use std::fs;
+use std::io::ErrorKind;
 use std::path::{Path, PathBuf};
 
 use super::cause::{self, Cause, Refusal};
 use super::listing::{self, Run};
-use super::named::{self, Fault, Named};
+use super::named::{self, Named};
 use super::names::Names;
-use super::programs::{missing, Checked, Found, Programs};
+use super::programs::{missing, say, Checked, Found, Missing, Programs};
 use super::runs::{self, NamedRun};
 use super::text::{self, Row};
+use super::words::Fault;
 
 pub const PLAN: &str = "plan.txt";
 pub const RUN: &str = "run.txt";
@@ -24,8 +26,8 @@ pub enum Stop {
     Refused(String),
 }
 
-impl From<super::programs::Missing> for Stop {
-    fn from(missing: super::programs::Missing) -> Stop {
+impl From<Missing> for Stop {
+    fn from(missing: Missing) -> Stop {
         Stop::Missing(missing.0)
     }
 }
@@ -43,122 +45,140 @@ pub struct Plan {
     pub is_named: bool,
 }
 
-/// A run as a text; of a named one the lines.
+/// A run as a text; of a named one the places of its lines.
 pub struct RunFile {
     pub file: String,
     pub text: Vec<u8>,
     pub named: Option<NamedRun>,
 }
 
-pub fn bytes(path: &Path) -> Found<Vec<u8>> {
+fn bytes(path: &Path) -> Found<Vec<u8>> {
+    let shown = path.display();
     fs::read(path).or_else(|error| match error.kind() {
-        std::io::ErrorKind::NotFound => {
-            missing(format!("there is no file {}; name one that is there", path.display()))
-        }
-        std::io::ErrorKind::IsADirectory => {
-            missing(format!("{} is a folder; name a file in it", path.display()))
-        }
-        _ => {
-            missing(format!("{} cannot be read ({error}); name a file that can be", path.display()))
-        }
+        ErrorKind::NotFound => missing(format!("there is no file {shown}; name one that is there")),
+        ErrorKind::IsADirectory => missing(format!("{shown} is a folder; name a file in it")),
+        _ => missing(format!("{shown} cannot be read ({error}); name a file that can be")),
     })
 }
 
-/// A file of words, for people.
-fn words(path: &Path) -> Outcome<String> {
-    let file = bytes(path)?;
-    String::from_utf8(file).map_err(|error| {
-        let line = error.as_bytes()[..error.utf8_error().valid_up_to()]
-            .iter()
-            .filter(|&&b| b == b'\n')
-            .count()
-            + 1;
-        let fault =
-            Fault { line, word: String::new(), says: String::from("the line is not UTF-8 text") };
-        Stop::Refused(fault.report(&path.display().to_string()))
-    })
+/// The words of a file in named form; a byte order mark before them is no word.
+fn words(path: &Path, bytes: &[u8]) -> Outcome<String> {
+    match std::str::from_utf8(bytes) {
+        Ok(file) => Ok(String::from(file.strip_prefix('\u{feff}').unwrap_or(file))),
+        Err(error) => {
+            let before = &bytes[..error.valid_up_to()];
+            let line = before.iter().filter(|&&byte| byte == b'\n').count() + 1;
+            let says = String::from("the line is not UTF-8 text");
+            let fault = Fault { line, word: String::new(), says };
+            Err(Stop::Refused(fault.report(&path.display().to_string())))
+        }
+    }
 }
 
 fn is_named(path: &Path) -> bool {
     path.extension().is_some_and(|end| end == "named")
 }
 
-pub fn folder(path: &str) -> Found<PathBuf> {
-    let folder = PathBuf::from(path);
-    match folder.is_dir() {
-        true => Ok(folder),
-        false => missing(format!("there is no folder {path}; name one with {PLAN} and {RUN} in it, or {NAMED_PLAN} and {NAMED_RUN}")),
+pub fn folder(path: &Path) -> Found<PathBuf> {
+    match path.is_dir() {
+        true => Ok(path.to_path_buf()),
+        false => missing(format!(
+            "there is no folder {}; name one with {PLAN} and {RUN} in it, or {NAMED_PLAN} and {NAMED_RUN}",
+            path.display()
+        )),
     }
-}
-
-/// Whether a file begins as a plan text does, with a header's line.
-fn begins_as_text(bytes: &[u8]) -> bool {
-    bytes.get(text::LINE - 1) == Some(&b'\n') && bytes.starts_with(b"   0")
-}
-
-/// Whether a file reads as a named plan.
-fn reads_as_named(bytes: &[u8]) -> bool {
-    std::str::from_utf8(bytes).is_ok_and(|file| named::read(file).is_ok())
 }
 
 /// A plan in named form.
 pub fn named_plan(path: &Path) -> Outcome<Plan> {
     let file = path.display().to_string();
-    if begins_as_text(&bytes(path)?) {
+    let bytes = bytes(path)?;
+    if bytes.starts_with(b"   0") && bytes.get(text::LINE - 1) == Some(&b'\n') {
         let says = format!("{file} is a plan text already; ./ragbasalt text gives its named form");
         return Err(Stop::Missing(says));
     }
-    let named = named::read(&words(path)?).map_err(|fault| Stop::Refused(fault.report(&file)))?;
+    let named =
+        named::read(&words(path, &bytes)?).map_err(|fault| Stop::Refused(fault.report(&file)))?;
     Ok(Plan { text: text::text(&named.rows), named: Some(named), file, is_named: true })
 }
 
 /// A plan text; the names are those of the named plan beside it, if that gives the same text.
-pub fn plan_text(path: &Path) -> Outcome<Plan> {
+fn plan_text(path: &Path) -> Outcome<Plan> {
     let file = path.display().to_string();
     let text = bytes(path)?;
-    if reads_as_named(&text) {
-        let says = format!(
-            "{file} is a named plan; call it *.named, or make its text with ./ragbasalt plan"
-        );
+    if std::str::from_utf8(&text).is_ok_and(named::begins) {
+        let says = format!("{file} looks like a named plan; call it *.named, or make its text with ./ragbasalt plan");
         return Err(Stop::Missing(says));
     }
-    let beside = path.with_file_name(NAMED_PLAN);
-    let named = fs::read_to_string(beside).ok().and_then(|file| named::read(&file).ok());
+    let beside = fs::read(path.with_file_name(NAMED_PLAN)).ok();
+    let named = beside.and_then(|beside| named::read(&words(path, &beside).ok()?).ok());
     let named = named.filter(|named| text::text(&named.rows) == text);
     Ok(Plan { file, text, named, is_named: false })
 }
 
-/// The plan of a file, or of a folder: its text, or if there is none its named plan.
-pub fn plan(path: &str) -> Outcome<Plan> {
-    let path = PathBuf::from(path);
-    let path = match path.is_dir() {
-        true if !path.join(PLAN).exists() && path.join(NAMED_PLAN).exists() => {
-            path.join(NAMED_PLAN)
-        }
-        true => path.join(PLAN),
-        false => path,
-    };
-    if is_named(&path) {
-        named_plan(&path)
-    } else {
-        plan_text(&path)
+/// The plan of a file, or of a folder: its text, or if there is none its named plan. A named plan
+/// beside the text of a folder that gives another text is told of.
+pub fn plan(path: &Path) -> Outcome<Plan> {
+    if !path.is_dir() {
+        return if is_named(path) { named_plan(path) } else { plan_text(path) };
     }
+    let (file, beside) = (path.join(PLAN), path.join(NAMED_PLAN));
+    if !beside.exists() {
+        return match file.exists() {
+            true => plan_text(&file),
+            false => Err(Stop::Missing(format!(
+                "there is neither {PLAN} nor {NAMED_PLAN} in {}; put one there",
+                path.display()
+            ))),
+        };
+    }
+    if !file.exists() {
+        return named_plan(&beside);
+    }
+    let plan = plan_text(&file)?;
+    if plan.named.is_none() {
+        let beside = beside.display();
+        say(&format!("{beside} does not give {PLAN}, which is used; to use it: ./ragbasalt plan {beside} >{}", plan.file));
+    }
+    Ok(plan)
 }
 
+/// A run in named form.
 pub fn named_run(path: &Path, plan: &Accepted) -> Outcome<RunFile> {
     let file = path.display().to_string();
-    let named = runs::read(&words(path)?, plan.header(), &plan.names)
-        .map_err(|fault| Stop::Refused(fault.report(&file)))?;
+    let named = runs::read(&words(path, &bytes(path)?)?, plan.header(), &plan.names);
+    let named = named.map_err(|fault| Stop::Refused(fault.report(&file)))?;
     Ok(RunFile { text: runs::text(&named.lines), named: Some(named), file })
 }
 
-/// The run of a folder.
+/// A run text.
+pub fn run_text(path: &Path) -> Outcome<RunFile> {
+    Ok(RunFile { file: path.display().to_string(), text: bytes(path)?, named: None })
+}
+
+/// The run of a folder: its text, or if there is none its named run. A named run beside the text
+/// that gives another text is told of.
 pub fn run(folder: &Path, plan: &Accepted) -> Outcome<RunFile> {
-    let (text, named) = (folder.join(RUN), folder.join(NAMED_RUN));
-    match !text.exists() && named.exists() {
-        true => named_run(&named, plan),
-        false => Ok(RunFile { file: text.display().to_string(), text: bytes(&text)?, named: None }),
+    let (file, beside) = (folder.join(RUN), folder.join(NAMED_RUN));
+    if !beside.exists() {
+        return match file.exists() {
+            true => run_text(&file),
+            false => Err(Stop::Missing(format!(
+                "there is neither {RUN} nor {NAMED_RUN} in {}; put one there",
+                folder.display()
+            ))),
+        };
     }
+    if !file.exists() {
+        return named_run(&beside, plan);
+    }
+    let run = run_text(&file)?;
+    let same = named_run(&beside, plan).is_ok_and(|named| named.text == run.text);
+    if !same && plan.plan.named.is_some() {
+        let (named, shown) = (folder.join(NAMED_PLAN), beside.display());
+        say(&format!("{shown} does not give {RUN}, which is used; to use it: ./ragbasalt plan {} {shown} >{}", named.display(), run.file));
+    }
+    Ok(run)
 }
 
 /// A plan that the proved program accepted, with its period and its names.
@@ -180,8 +200,8 @@ impl Plan {
     pub fn report(&self, refusal: Refusal) -> String {
         let names = self.named.as_ref().map(|named| &named.names);
         let found = cause::of_plan(&self.text, names);
-        let line =
-            refusal.line.checked_sub(1).and_then(|index| self.text.chunks(text::LINE).nth(index));
+        let index = refusal.line.checked_sub(1);
+        let line = index.and_then(|index| self.text.chunks(text::LINE).nth(index));
         match self.named.as_ref().filter(|_| self.is_named) {
             Some(named) => named_report(&self.file, named, refusal, found.as_ref()),
             None => cause::report(&self.file, refusal, found.as_ref(), line),
@@ -205,38 +225,38 @@ impl Plan {
 /// A refusal of the text made of a named plan: where it stands there.
 fn named_report(file: &str, named: &Named, refusal: Refusal, found: Option<&Cause>) -> String {
     let found = found.filter(|found| found.refusal == refusal);
-    let source = refusal.line.checked_sub(1).and_then(|index| named.sources.get(index));
-    let column = found.and_then(|found| found.column.as_ref()).map_or(0, |(column, _, _)| *column);
     let rule = cause::rule(refusal.number);
     let words = found.map_or(rule, |found| &found.words);
-    let (line, word) = source.map_or((0, String::new()), |source| source[column].clone());
+    let column = found.and_then(|found| found.column.as_ref()).map_or(0, |(column, ..)| *column);
+    // A cell that never becomes known stands in the row behind the header that has its number.
+    let cell = found.and_then(|found| found.cells.first()).map(|cell| (cell + 1, 1));
+    let place = refusal.line.checked_sub(1).map(|index| (index, column)).or(cell);
+    let place = place.and_then(|(index, column)| Some(&named.sources.get(index)?[column]));
+    let (line, word) = place.cloned().unwrap_or_default();
     let says = format!("refusal {}: {words}", refusal.number);
-    let mut out = Fault { line, word, says }.report(file);
-    if found.is_some() {
-        out += &format!("  rule: {rule}\n");
-    }
-    out
+    let rule = if found.is_some() { format!("  rule: {rule}\n") } else { String::new() };
+    Fault { line, word, says }.report(file) + &rule
 }
 
 impl RunFile {
     /// The report of a refused run line.
     pub fn report(&self, refusal: Refusal, plan: &Accepted) -> String {
-        let size = cause::run_line(plan.header()[4] as usize);
         let found = cause::of_run(plan.header(), &plan.names, &self.text, refusal.line);
+        let found = found.filter(|found| found.refusal == refusal);
         let index = refusal.line.saturating_sub(1);
-        let Some(line) = self.named.as_ref().and_then(|named| named.sources.get(index)) else {
-            let start = self.text.len().min(index * size);
-            let line = &self.text[start..self.text.len().min(start + size)];
-            return cause::report(
-                &self.file,
-                refusal,
-                found.as_ref(),
-                Some(line).filter(|line| !line.is_empty()),
-            );
-        };
-        let words = found.as_ref().map_or(cause::rule(10), |found| &found.words);
-        let says = format!("refusal {}: {words}", refusal.number);
-        Fault { line: *line, word: String::new(), says }.report(&self.file)
+        if let Some(source) = self.named.as_ref().and_then(|named| named.sources.get(index)) {
+            let is_fill = found.as_ref().is_some_and(|found| matches!(found.column, Some((1, ..))));
+            let (line, word) =
+                if is_fill { source.fill.clone() } else { (source.line, String::new()) };
+            let words = found.as_ref().map_or(cause::rule(refusal.number), |found| &found.words);
+            let says = format!("refusal {}: {words}", refusal.number);
+            return Fault { line, word, says }.report(&self.file);
+        }
+        let size = cause::run_line(plan.header()[4] as usize);
+        let start = self.text.len().min(index.saturating_mul(size));
+        let rest = &self.text[start..self.text.len().min(start + size)];
+        let line = rest.split_inclusive(|&byte| byte == b'\n').next();
+        cause::report(&self.file, refusal, found.as_ref(), line)
     }
 
     /// The listing by the proved program.
@@ -245,12 +265,8 @@ impl RunFile {
     }
 }
 
-/// Everything that is shown of a run, and the refusal that ends it.
-pub fn followed(
-    plan: &Accepted,
-    file: &RunFile,
-    programs: &Programs,
-) -> Outcome<(Run, Option<Refusal>)> {
+/// Everything that is shown of a run.
+pub fn followed(plan: &Accepted, file: &RunFile, programs: &Programs) -> Outcome<Run> {
     let header = *plan.header();
     let [nodes, sensors, actuators] =
         [header[1], header[4], header[5]].map(|number| number as usize);
@@ -259,30 +275,24 @@ pub fn followed(
     let quiet = runs::without_faults(&file.text, sensors, count);
     let quiet = programs.output_on("run", &[(PLAN, &plan.plan.text), (RUN, &quiet)])?;
     let quiet = listing::read(&quiet, actuators);
-    let masks: Vec<u64> =
-        runs::lines(&file.text, sensors).into_iter().take(count).map(|line| line[0]).collect();
+    let lines = runs::lines(&file.text, sensors);
+    let masks: Vec<u64> = lines.into_iter().take(count).map(|line| line[0]).collect();
     let states = listing::states(masks.iter().copied(), nodes, plan.period);
-    let working = |states: &[listing::State]| {
-        states.iter().filter(|state| **state == listing::State::Working).count() as u64
-    };
-    let same = quiet.frames.len() == count
-        && states.len() == count
-        && states
-            .iter()
-            .zip(&listed.frames)
-            .all(|(states, frame)| working(states) == frame.working);
-    if !same {
-        return Err(Stop::Missing(format!("what is shown of {} would not be what the proved program listed; print the listing itself with run", file.file)));
-    }
-    let faults = listing::faults(&states, nodes);
     let run = Run {
         header,
         period: plan.period,
+        faults: listing::faults(&states, nodes),
         masks,
         states,
         frames: listed.frames,
         without_faults: quiet.frames,
-        faults,
+        refusal: listed.refusal,
     };
-    Ok((run, listed.refusal))
+    match run.is_listed() {
+        true => Ok(run),
+        false => Err(Stop::Missing(format!(
+            "what is shown of {} would not be what the proved program listed; print the listing itself with ./ragbasalt run",
+            file.file
+        ))),
+    }
 }

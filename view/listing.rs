@@ -104,9 +104,27 @@ pub struct Run {
     /// The same run with masks 0, by the proved program.
     pub without_faults: Vec<Frame>,
     pub faults: Vec<Knock>,
+    /// What ended it before its end.
+    pub refusal: Option<Refusal>,
 }
 
 impl Run {
+    /// Whether what was worked out beside the listings fits them: a frame for each of the masks and
+    /// in both listings, and as many working nodes as are listed.
+    pub fn is_listed(&self) -> bool {
+        let count = self.frames.len();
+        let working = |states: &[State]| {
+            states.iter().filter(|state| **state == State::Working).count() as u64
+        };
+        self.without_faults.len() == count
+            && self.states.len() == count
+            && self
+                .states
+                .iter()
+                .zip(&self.frames)
+                .all(|(states, frame)| working(states) == frame.working)
+    }
+
     pub fn nodes(&self) -> usize {
         self.header[1] as usize
     }

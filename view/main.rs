@@ -13,34 +13,68 @@ mod programs;
 mod runs;
 mod show;
 mod text;
+mod words;
 
-use std::io::{self, Write};
+use std::fs;
+use std::io::{self, ErrorKind, Write};
 use std::path::{Path, PathBuf};
 use std::process::ExitCode;
 
-use folder::{Outcome, Plan, Stop, NAMED_PLAN, PLAN, RUN};
-use programs::{refusal, Programs};
+use folder::{Accepted, Outcome, RunFile, Stop, PLAN};
+use programs::{refusal, say, Programs};
 
-const USAGE: &str = "usage: ./ragbasalt VERB [ARGUMENTS]
-  run [FOLDER]               print the listing of FOLDER/plan.txt and FOLDER/run.txt; so does ./ragbasalt [FOLDER]
-  check PLAN                 say whether a plan is accepted and its recovery period R, or why it is refused
-  plan FILE [RUN]            print the plan text of the named plan FILE, or with RUN the run text of a named run
-  text PLAN [RUN]            print the named form of a plan text, or with RUN that of a run text
-  show [FOLDER] [--all]      print the run as a table for people; of a long run the frames where something changed
-  picture [FOLDER] [FILE]    draw the run as an SVG picture, FOLDER/picture.svg or FILE (-: print it)
-  histories [PLAN]           print the fault histories of three frames that the press must live through
-  library                    build the library for C and Rust
-FOLDER is examples/k where none is named. A PLAN is a plan text, a named plan (*.named) or a folder with one.
-docs/NAMED.md tells how plans and runs are written by name.
+/// The verbs: their forms, and what they do.
+const VERBS: [(&str, &str); 8] = [
+    (
+        "run [FOLDER]",
+        "print the listing of FOLDER/plan.txt and FOLDER/run.txt; so does ./ragbasalt [FOLDER]",
+    ),
+    (
+        "check PLAN",
+        "say whether a plan is accepted and its recovery period R, or why it is refused",
+    ),
+    (
+        "plan FILE [RUN]",
+        "print the plan text of the named plan FILE, or with RUN the run text of a named run",
+    ),
+    ("text PLAN [RUN]", "print the named form of a plan text, or with RUN that of a run text"),
+    (
+        "show [FOLDER] [--all]",
+        "print the run as a table for people; --all: each frame of a long run in a row of its own",
+    ),
+    (
+        "picture [FOLDER] [FILE]",
+        "draw the run as an SVG picture, FOLDER/picture.svg or FILE (-: print it)",
+    ),
+    (
+        "histories [PLAN]",
+        "print the fault histories of three frames that the press must live through",
+    ),
+    ("library", "build the library for C and Rust"),
+];
+
+const ABOUT: &str = "FOLDER is examples/k where none is named; one without plan.txt or run.txt may have plan.named or run.named.
+A PLAN is a plan text, a named plan (*.named), or a folder with either. docs/NAMED.md tells how plans and runs are
+written by name. The exit status is 1 where a plan, a run line or a named file is refused, 2 where something is missing.
 ";
 
-/// What a verb did: whether the plan and every run line was accepted.
-type Done = Outcome<bool>;
+/// The line of a verb, or of all.
+fn usage(verb: Option<&str>) -> String {
+    let chosen =
+        |(form, _): &&(&str, &str)| verb.is_none_or(|verb| form.split(' ').next() == Some(verb));
+    let line = |(form, does): &(&str, &str)| format!("  {form:<25}{does}\n");
+    VERBS.iter().filter(chosen).map(line).collect()
+}
 
-/// Prints; a reader that has seen enough is no error.
-fn print(bytes: &[u8]) {
+/// Prints. A reader that has seen enough is no error.
+fn print(bytes: &[u8]) -> Outcome<()> {
     let mut out = io::stdout().lock();
-    let _ = out.write_all(bytes).and_then(|()| out.flush());
+    match out.write_all(bytes).and_then(|()| out.flush()) {
+        Err(error) if error.kind() != ErrorKind::BrokenPipe => {
+            Err(Stop::Missing(format!("the output cannot be written ({error}); it is not whole")))
+        }
+        _ => Ok(()),
+    }
 }
 
 struct Tool {
@@ -48,172 +82,158 @@ struct Tool {
 }
 
 impl Tool {
-    fn example(&self) -> String {
-        self.programs.root().join("examples/k").display().to_string()
+    fn path(&self, path: Option<&str>) -> PathBuf {
+        path.map_or_else(|| self.programs.root().join("examples/k"), PathBuf::from)
     }
 
-    /// The listing, byte for byte as the proved program prints it; a refusal's words go to stderr.
-    fn run(&self, path: Option<&str>) -> Done {
-        let example = self.example();
-        let folder = folder::folder(path.unwrap_or(&example))?;
-        let (plan, run) = (folder.join(PLAN), folder.join(RUN));
-        if plan.exists() && run.exists() {
-            folder::bytes(&plan)?;
-            folder::bytes(&run)?;
-            let listing = self.programs.output("run", &folder)?;
-            print(&listing);
-            let Some(refused) = refusal(&listing) else { return Ok(true) };
-            let plan = folder::plan_text(&plan)?;
-            if refused.number != 10 {
-                return Err(Stop::Refused(plan.report(refused)));
-            }
-            let plan = plan.accepted(&self.programs)?;
-            return Err(Stop::Refused(folder::run(&folder, &plan)?.report(refused, &plan)));
-        }
-        let plan = folder::plan(&folder.display().to_string())?.accepted(&self.programs)?;
-        let run = folder::run(&folder, &plan)?;
-        let listing = run.listing(&plan, &self.programs)?;
-        print(&listing);
-        match refusal(&listing) {
-            Some(refused) => Err(Stop::Refused(run.report(refused, &plan))),
-            None => Ok(true),
-        }
+    /// The plan of a folder and its run, as the proved program accepted the one.
+    fn files(&self, folder: &Path) -> Outcome<(Accepted, RunFile)> {
+        self.programs.build(&["run", "plan_check"])?;
+        let plan = folder::plan(folder)?.accepted(&self.programs)?;
+        let run = folder::run(folder, &plan)?;
+        Ok((plan, run))
     }
 
-    fn check(&self, path: &str) -> Done {
-        match folder::plan(path)?.accepted(&self.programs) {
-            Ok(plan) => {
-                print(
-                    format!("accepted: {}\n", show::sizes(plan.header(), plan.period)).as_bytes(),
-                );
-                Ok(true)
+    /// The listing, byte for byte as the proved program prints it; then the words of a refusal.
+    fn run(&self, path: Option<&str>) -> Outcome<()> {
+        let folder = folder::folder(&self.path(path))?;
+        match self.files(&folder) {
+            Ok((plan, run)) => {
+                let listing = run.listing(&plan, &self.programs)?;
+                print(&listing)?;
+                unless_refused(refusal(&listing).map(|refused| run.report(refused, &plan)))
             }
-            // The answer that was asked for, so it is printed as one.
             Err(Stop::Refused(report)) => {
-                print(report.as_bytes());
-                Ok(false)
+                // "With a refused plan the run file is not looked at."
+                if let Ok(text) = fs::read(folder.join(PLAN)) {
+                    print(&self.programs.output_on("run", &[(PLAN, &text)])?)?;
+                }
+                Err(Stop::Refused(report))
             }
             Err(stop) => Err(stop),
         }
     }
 
-    fn plan(&self, path: &str, run: Option<&str>) -> Done {
-        let plan = folder::named_plan(Path::new(path))?.accepted(&self.programs)?;
+    /// The answer that was asked for, so a refusal is printed as one.
+    fn check(&self, path: &str) -> Outcome<()> {
+        let plan = folder::plan(Path::new(path)).and_then(|plan| plan.accepted(&self.programs));
+        match plan {
+            Ok(plan) => {
+                print(format!("accepted: {}\n", show::sizes(plan.header(), plan.period)).as_bytes())
+            }
+            Err(Stop::Refused(report)) => {
+                print(report.as_bytes()).and(Err(Stop::Refused(String::new())))
+            }
+            Err(stop) => Err(stop),
+        }
+    }
+
+    fn plan(&self, path: &str, run: Option<&str>) -> Outcome<()> {
+        let path = Path::new(path);
         let Some(run) = run else {
-            print(&plan.plan.text);
-            return Ok(true);
+            let plan = folder::named_plan(path)?.accepted(&self.programs)?;
+            return print(&plan.plan.text);
         };
+        let plan = folder::plan(path)?.accepted(&self.programs)?;
         let run = folder::named_run(Path::new(run), &plan)?;
-        match refusal(&run.listing(&plan, &self.programs)?) {
-            Some(refused) => Err(Stop::Refused(run.report(refused, &plan))),
-            None => {
-                print(&run.text);
-                Ok(true)
-            }
-        }
+        self.accepted_run(&plan, &run)?;
+        print(&run.text)
     }
 
-    fn text(&self, path: &str, run: Option<&str>) -> Done {
-        let plan = folder::plan_text(Path::new(path))?.accepted(&self.programs)?;
-        let Some(run) = run else {
-            print(named::write(&plan.rows, &plan.names).as_bytes());
-            return Ok(true);
-        };
-        let run = folder::RunFile {
-            file: String::from(run),
-            text: folder::bytes(Path::new(run))?,
-            named: None,
-        };
-        match refusal(&run.listing(&plan, &self.programs)?) {
-            Some(refused) => Err(Stop::Refused(run.report(refused, &plan))),
-            None => {
-                let lines = runs::lines(&run.text, plan.header()[4] as usize);
-                print(runs::write(&lines, &plan.names).as_bytes());
-                Ok(true)
-            }
-        }
-    }
-
-    /// The plan and the run of a folder, followed by the proved program; the report of the refusal
-    /// that ends it.
-    fn follow(&self, folder: &Path) -> Outcome<(folder::Accepted, listing::Run, Option<String>)> {
-        self.programs.build(&["run", "plan_check"])?;
-        let plan = folder::plan(&folder.display().to_string())?;
-        if plan.named.is_none() && folder.join(NAMED_PLAN).exists() {
-            eprintln!(
-                "ragbasalt: {} does not give {PLAN}, so its names are not used",
-                folder.join(NAMED_PLAN).display()
-            );
+    fn text(&self, path: &str, run: Option<&str>) -> Outcome<()> {
+        let plan = folder::plan(Path::new(path))?;
+        if plan.is_named {
+            return Err(Stop::Missing(format!(
+                "{} is a named plan already; ./ragbasalt plan gives its text",
+                plan.file
+            )));
         }
         let plan = plan.accepted(&self.programs)?;
-        let file = folder::run(folder, &plan)?;
-        let (run, refused) = folder::followed(&plan, &file, &self.programs)?;
-        let report = refused.map(|refused| file.report(refused, &plan));
-        Ok((plan, run, report))
+        let Some(run) = run else {
+            return print(named::write(&plan.rows, &plan.names).as_bytes());
+        };
+        let run = folder::run_text(Path::new(run))?;
+        self.accepted_run(&plan, &run)?;
+        let lines = runs::lines(&run.text, plan.header()[4] as usize);
+        print(runs::write(&lines, &plan.names).as_bytes())
     }
 
-    fn show(&self, path: Option<&str>, all: bool) -> Done {
-        let example = self.example();
-        let folder = folder::folder(path.unwrap_or(&example))?;
-        let (plan, run, report) = self.follow(&folder)?;
-        print(show::table(&run, &plan.names, all).as_bytes());
-        report.map_or(Ok(true), |report| Err(Stop::Refused(report)))
+    /// Whether the proved program takes every line of a run.
+    fn accepted_run(&self, plan: &Accepted, run: &RunFile) -> Outcome<()> {
+        let listing = run.listing(plan, &self.programs)?;
+        unless_refused(refusal(&listing).map(|refused| run.report(refused, plan)))
     }
 
-    fn picture(&self, path: Option<&str>, file: Option<&str>) -> Done {
-        let example = self.example();
-        let folder = folder::folder(path.unwrap_or(&example))?;
-        let (plan, run, report) = self.follow(&folder)?;
-        let name = folder.canonicalize().unwrap_or(folder.clone());
-        let name =
-            name.file_name().map_or(String::new(), |name| name.to_string_lossy().into_owned());
+    fn show(&self, path: Option<&str>, all: bool) -> Outcome<()> {
+        let folder = folder::folder(&self.path(path))?;
+        let (plan, file) = self.files(&folder)?;
+        let run = folder::followed(&plan, &file, &self.programs)?;
+        print(show::table(&run, &plan.names, all).as_bytes())?;
+        unless_refused(run.refusal.map(|refused| file.report(refused, &plan)))
+    }
+
+    fn picture(&self, path: Option<&str>, place: Option<&str>) -> Outcome<()> {
+        let folder = folder::folder(&self.path(path))?;
+        let (plan, file) = self.files(&folder)?;
+        let run = folder::followed(&plan, &file, &self.programs)?;
+        let whole = folder.canonicalize().unwrap_or_else(|_| folder.clone());
+        let name = whole.file_name().unwrap_or_default().to_string_lossy();
         let picture = picture::svg(&run, &plan.names, &name);
-        match file {
-            Some("-") => print(picture.as_bytes()),
-            _ => {
-                let place = file.map_or(folder.join("picture.svg"), PathBuf::from);
-                if let Err(error) = std::fs::write(&place, picture) {
-                    let what = format!(
-                        "{} cannot be written ({error}); name another file behind the folder",
-                        place.display()
-                    );
-                    return Err(Stop::Missing(what));
-                }
-                print(format!("{}\n", place.display()).as_bytes());
-            }
+        if place == Some("-") {
+            print(picture.as_bytes())?;
+        } else {
+            let place = place.map_or_else(|| folder.join("picture.svg"), PathBuf::from);
+            let shown = place.display();
+            fs::write(&place, picture).map_err(|error| {
+                Stop::Missing(format!(
+                    "{shown} cannot be written ({error}); name another file behind the folder"
+                ))
+            })?;
+            print(format!("{shown}\n").as_bytes())?;
         }
-        report.map_or(Ok(true), |report| Err(Stop::Refused(report)))
+        unless_refused(run.refusal.map(|refused| file.report(refused, &plan)))
     }
 
-    fn histories(&self, path: Option<&str>) -> Done {
-        let plan: Plan = folder::plan(path.unwrap_or(&self.example()))?;
+    fn histories(&self, path: Option<&str>) -> Outcome<()> {
+        let mut plan = folder::plan(&self.path(path))?;
+        if plan.is_named {
+            plan = plan.accepted(&self.programs)?.plan;
+        }
         let listing = self.programs.output_on("histories", &[(PLAN, &plan.text)])?;
-        print(&listing);
-        match refusal(&listing) {
-            // One history is as long as a refusal's line; a refusal is a line by itself, and its
-            // number is above 0, where the first history is all 0.
-            Some(refused) if refused.number > 0 && listing.len() == 13 => {
-                Err(Stop::Refused(plan.report(refused)))
-            }
-            _ => Ok(true),
-        }
+        print(&listing)?;
+        // A history's line is as long as a refusal's. The first history is all 0, and a refusal's
+        // number never is.
+        let refused = refusal(&listing).filter(|refused| refused.number > 0 && listing.len() == 13);
+        unless_refused(refused.map(|refused| plan.report(refused)))
     }
 
-    fn library(&self) -> Done {
+    fn library(&self) -> Outcome<()> {
         let library = self.programs.library()?;
-        let words = format!("{library}\ninclude/ragbasalt.h\nto build with it: cc -Iinclude -o PROGRAM PROGRAM.c {library}\n");
-        print(words.as_bytes());
-        Ok(true)
+        let root = self.programs.root();
+        let here = std::env::current_dir().is_ok_and(|folder| folder == root);
+        let root = if here { Path::new("") } else { root };
+        let (library, include) = (root.join(library), root.join("include"));
+        let (library, include) = (library.display(), include.display());
+        let build = format!("to build with it: cc -I{include} -o PROGRAM PROGRAM.c {library}");
+        print(format!("{library}\n{include}/ragbasalt.h\n{build}\n").as_bytes())
     }
 
-    fn verb(&self, arguments: &[&str]) -> Done {
+    fn verb(&self, arguments: &[&str]) -> Outcome<()> {
         match *arguments {
-            [] => self.run(None),
-            ["help" | "--help" | "-h"] => {
-                print(USAGE.as_bytes());
-                Ok(true)
+            ["help" | "--help" | "-h"] => print(
+                format!("usage: ./ragbasalt VERB [ARGUMENTS]\n{}{ABOUT}", usage(None)).as_bytes(),
+            ),
+            ["help", verb] | [verb, "--help" | "-h"] if is_verb(verb) => {
+                print(usage(Some(verb)).as_bytes())
             }
-            ["run"] => self.run(None),
+            ["show", "--all"] => self.show(None, true),
+            ["show", folder, "--all"] | ["show", "--all", folder] => self.show(Some(folder), true),
+            [verb, ref rest @ ..]
+                if is_verb(verb) && rest.iter().any(|word| word.starts_with("--")) =>
+            {
+                form(verb)
+            }
+            [] | ["run"] => self.run(None),
             ["run", folder] => self.run(Some(folder)),
             ["check", plan] => self.check(plan),
             ["plan", file] => self.plan(file, None),
@@ -221,8 +241,6 @@ impl Tool {
             ["text", plan] => self.text(plan, None),
             ["text", plan, run] => self.text(plan, Some(run)),
             ["show"] => self.show(None, false),
-            ["show", "--all"] => self.show(None, true),
-            ["show", folder, "--all"] | ["show", "--all", folder] => self.show(Some(folder), true),
             ["show", folder] => self.show(Some(folder), false),
             ["picture"] => self.picture(None, None),
             ["picture", folder] => self.picture(Some(folder), None),
@@ -230,42 +248,53 @@ impl Tool {
             ["histories"] => self.histories(None),
             ["histories", plan] => self.histories(Some(plan)),
             ["library"] => self.library(),
-            [verb, ..] => match USAGE
-                .lines()
-                .find(|line| line.trim_start().split(' ').next() == Some(verb))
-            {
-                Some(line) => {
-                    let form = line.trim_start().split("  ").next().unwrap_or_default();
-                    Err(Stop::Missing(format!("the form is: ./ragbasalt {form}")))
-                }
-                None if arguments.len() == 1 && Path::new(verb).is_dir() => self.run(Some(verb)),
-                None => Err(Stop::Missing(format!(
-                    "'{verb}' is neither a verb nor a folder; ./ragbasalt help lists the verbs"
-                ))),
-            },
+            [verb, ..] if is_verb(verb) => form(verb),
+            [folder] if Path::new(folder).is_dir() => self.run(Some(folder)),
+            [first, ..] => {
+                let what = if Path::new(first).is_dir() {
+                    "comes before its verb"
+                } else {
+                    "is neither a verb nor a folder"
+                };
+                Err(Stop::Missing(format!("'{first}' {what}; ./ragbasalt help lists the verbs")))
+            }
         }
     }
 }
 
+fn is_verb(word: &str) -> bool {
+    VERBS.iter().any(|(form, _)| form.split(' ').next() == Some(word))
+}
+
+fn form(verb: &str) -> Outcome<()> {
+    let found = VERBS.iter().find(|(form, _)| form.split(' ').next() == Some(verb));
+    let form = found.map_or(verb, |(form, _)| form);
+    Err(Stop::Missing(format!("the form is: ./ragbasalt {form}")))
+}
+
+/// A report of a refusal, if there is one, is what the verb ends with.
+fn unless_refused(report: Option<String>) -> Outcome<()> {
+    report.map_or(Ok(()), |report| Err(Stop::Refused(report)))
+}
+
 fn main() -> ExitCode {
-    let arguments: Vec<String> =
-        std::env::args_os().skip(1).map(|word| word.to_string_lossy().into_owned()).collect();
+    let arguments = std::env::args_os().skip(1).map(|word| word.to_string_lossy().into_owned());
+    let arguments: Vec<String> = arguments.collect();
     let arguments: Vec<&str> = arguments.iter().map(String::as_str).collect();
     // The repository's folder comes first: ./ragbasalt puts it there.
-    let [root, arguments @ ..] = &arguments[..] else {
-        eprintln!("ragbasalt: call ./ragbasalt in the repository's folder");
+    let [root, ref arguments @ ..] = arguments[..] else {
+        say("call ./ragbasalt in the repository's folder");
         return ExitCode::from(2);
     };
     let tool = Tool { programs: Programs::new(Path::new(root)) };
     match tool.verb(arguments) {
-        Ok(true) => ExitCode::SUCCESS,
-        Ok(false) => ExitCode::from(1),
+        Ok(()) => ExitCode::SUCCESS,
         Err(Stop::Refused(report)) => {
-            eprint!("{report}");
+            let _ = io::stderr().write_all(report.as_bytes());
             ExitCode::from(1)
         }
         Err(Stop::Missing(what)) => {
-            eprintln!("ragbasalt: {what}");
+            say(&what);
             ExitCode::from(2)
         }
     }

@@ -43,7 +43,7 @@ pub fn read(word: &str) -> Result<u64, String> {
     }
     if !is_decimal(word) {
         return Err(String::from(
-            "a value is a decimal number as 20, -0.5 or 1e-9, or a pattern as 0x7ff8000000000000",
+            "a value is a decimal number as 20, -0.5 or 1e-9, or a pattern: NaN is 0x7ff8000000000000, infinity 0x7ff0000000000000, -infinity 0xfff0000000000000",
         ));
     }
     let value: f64 = word.parse().expect("a decimal number");

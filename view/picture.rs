@@ -1,9 +1,10 @@
 //! A run as one SVG picture: the nodes' states, the agreement, and each setpoint with the one of a
 //! press without faults behind it. No script; light in print, by the reader's setting on a screen.
 
-use std::fmt::Write;
+use std::iter;
+use std::ops::Range;
 
-use super::listing::{stretches, Run, State};
+use super::listing::{stretches, Frame, Run, State};
 use super::names::Names;
 use super::pattern::decimal;
 use super::show::{grouped, sizes, summary};
@@ -16,8 +17,8 @@ const COLUMNS: usize = 840;
 const NODE: f64 = 16.0;
 const AGREEMENT: f64 = 56.0;
 const SETPOINT: f64 = 92.0;
-/// Between two panels, with the heading of the lower one.
-const GAP: f64 = 34.0;
+/// Between two panels: the numbers of the upper one, the heading of the lower one.
+const GAP: f64 = 42.0;
 
 const STYLE: &str = "
 .ground{fill:#fff}
@@ -39,6 +40,7 @@ text{font:12px Helvetica,Arial,sans-serif;fill:#1b1f23}
 .line.area{fill:#0b4f9e;fill-opacity:.5;stroke-width:.8;stroke-opacity:.8}
 .off{fill:#d1242f}
 .beyond{fill:#7a4fb5}
+.nan{fill:#7a4fb5;fill-opacity:.22}
 @media screen and (prefers-color-scheme:dark){
 .ground{fill:#0f1419}
 text{fill:#e6edf3}
@@ -48,12 +50,12 @@ text{fill:#e6edf3}
 .working{fill:#2a4d3c}
 .recovering{fill:#c98a2b}
 .bad{fill:#ff7b72}
-.quiet{stroke:#46525f}
-.quiet.area{fill:#46525f}
+.quiet{stroke:#5b6b7c}
+.quiet.area{fill:#5b6b7c}
 .line{stroke:#79b8ff}
 .line.area{fill:#79b8ff}
 .off{fill:#ff7b72}
-.beyond{fill:#c297ff}
+.beyond,.nan{fill:#c297ff}
 }
 ";
 
@@ -64,7 +66,7 @@ struct Columns {
 }
 
 impl Columns {
-    fn frames(&self, column: usize) -> std::ops::Range<usize> {
+    fn frames(&self, column: usize) -> Range<usize> {
         let edge = |column: usize| column * self.frames / self.count;
         edge(column)..edge(column + 1)
     }
@@ -84,9 +86,25 @@ impl Columns {
         stretches(self.count, |column| self.frames(column).any(&test))
     }
 
+    /// Whether each frame has a column of its own.
     fn is_exact(&self) -> bool {
         self.frames == self.count
     }
+}
+
+/// Least and greatest of some values, if there are any.
+fn ends(values: impl Iterator<Item = f64>) -> Option<(f64, f64)> {
+    values.fold(None, |ends, value| {
+        Some(
+            ends.map_or((value, value), |(low, high): (f64, f64)| {
+                (low.min(value), high.max(value))
+            }),
+        )
+    })
+}
+
+fn finite(values: &[f64]) -> impl Iterator<Item = f64> + '_ {
+    values.iter().copied().filter(|value| value.is_finite())
 }
 
 /// The values between which a panel is drawn.
@@ -99,30 +117,24 @@ struct Scale {
 }
 
 impl Scale {
-    /// From the values without faults, a little wider; those with faults count as far as they lie
-    /// within three times that range, so that one wild value leaves the others to be seen.
+    /// From the values without faults; those with faults count as far as they lie within twice that
+    /// range on either side, or as far from it as it is from 0. So one wild value leaves the others
+    /// to be seen.
     fn of(quiet: &[f64], own: &[f64], top: f64, height: f64) -> Scale {
-        let ends = |values: &[f64]| {
-            let finite = values.iter().copied().filter(|value| value.is_finite());
-            finite.fold(None, |ends: Option<(f64, f64)>, value| {
-                Some(ends.map_or((value, value), |(low, high)| (low.min(value), high.max(value))))
-            })
-        };
-        let (low, high) = ends(quiet).or(ends(own)).unwrap_or((0.0, 0.0));
-        // Halves, as the whole of a range may be beyond the largest value.
-        let half =
-            (high / 2.0 - low / 2.0).max(high.abs().max(low.abs()).max(f64::MIN_POSITIVE) * 1e-9);
-        let near = |value: f64| value >= low - 4.0 * half && value <= high + 4.0 * half;
-        let own: Vec<f64> = own.iter().copied().filter(|&value| near(value)).collect();
-        let (own_low, own_high) = ends(&own).unwrap_or((low, high));
-        let (low, high) = (low.min(own_low), high.max(own_high));
-        let room = match high > low {
-            true => (high / 2.0 - low / 2.0) * 0.12,
-            false => (high.abs() * 0.05).max(if high == 0.0 { 1.0 } else { 0.0 }),
+        let (low, high) = ends(finite(quiet)).or(ends(finite(own))).unwrap_or((0.0, 0.0));
+        // By halves, as the whole of a range may be beyond the largest value.
+        let reach = (4.0 * (high / 2.0 - low / 2.0)).max(low.abs()).max(high.abs());
+        let near = finite(own).filter(|&value| value >= low - reach && value <= high + reach);
+        let (low, high) = ends(near.chain([low, high])).unwrap_or((low, high));
+        let room = match (high > low, high == 0.0) {
+            (true, _) => (high / 2.0 - low / 2.0) * 0.12,
+            (false, true) => 1.0,
+            (false, false) => high.abs() * 0.05,
         };
         Scale { low: (low - room).max(f64::MIN), high: (high + room).min(f64::MAX), top, height }
     }
 
+    /// The height at which a value of the range stands; what is beyond it, at its edge.
     fn y(&self, value: f64) -> f64 {
         let whole = self.high / 2.0 - self.low / 2.0;
         let share = (value.clamp(self.low, self.high) / 2.0 - self.low / 2.0) / whole;
@@ -135,20 +147,11 @@ impl Scale {
 
     /// Round numbers within the range, three to six of them.
     fn ticks(&self) -> Vec<f64> {
-        let range = self.high - self.low;
-        if !(range.is_finite() && range > 0.0) {
-            return [self.low, 0.0, self.high]
-                .into_iter()
-                .filter(|&value| self.has(value))
-                .collect();
-        }
-        let rough = range / 4.0;
+        let rough = self.high / 4.0 - self.low / 4.0;
         let power = 10f64.powf(rough.log10().floor());
-        let step = [1.0, 2.0, 2.5, 5.0, 10.0]
-            .map(|digit| digit * power)
-            .into_iter()
-            .find(|&step| step >= rough);
-        let step = step.filter(|step| step.is_normal()).unwrap_or(range);
+        let steps = [1.0, 2.0, 2.5, 5.0, 10.0].map(|digit| digit * power);
+        let step = steps.into_iter().find(|&step| step >= rough && step.is_normal());
+        let Some(step) = step else { return vec![self.low, self.high] };
         let first = (self.low / step).ceil();
         let ticks = (0..8).map(|index| (first + f64::from(index)) * step);
         ticks.filter(|&value| self.has(value)).map(|value| rounded(value, step)).collect()
@@ -157,16 +160,35 @@ impl Scale {
 
 /// A multiple of a step, without the last digits that its product has too many.
 fn rounded(value: f64, step: f64) -> f64 {
-    let text = format!("{:.*e}", 12, value);
-    if value.abs() < step / 2.0 {
-        0.0
-    } else {
-        text.parse().unwrap_or(value)
+    match value.abs() < step / 2.0 {
+        true => 0.0,
+        false => format!("{value:.12e}").parse().unwrap_or(value),
     }
 }
 
+/// A number beside an axis, where there is room for nine letters.
+fn label(value: f64) -> String {
+    let text = decimal(value);
+    match text.len() <= 9 {
+        true => text,
+        false => format!("{value:.2e}"),
+    }
+}
+
+/// Text for XML: markup escaped, and letters left out that no XML may have.
 fn escaped(text: &str) -> String {
+    let allowed =
+        |letter: &char| !letter.is_control() && !matches!(letter, '\u{fffe}' | '\u{ffff}');
+    let text: String = text.chars().filter(allowed).collect();
     text.replace('&', "&amp;").replace('<', "&lt;").replace('>', "&gt;").replace('"', "&quot;")
+}
+
+/// At most so many letters of a text.
+fn cut(text: &str, most: usize) -> String {
+    match text.chars().count() > most {
+        true => text.chars().take(most - 1).chain(['\u{2026}']).collect(),
+        false => String::from(text),
+    }
 }
 
 /// A coordinate to a tenth.
@@ -175,45 +197,29 @@ fn short(value: f64) -> String {
     text.strip_suffix(".0").map_or(text.clone(), String::from)
 }
 
-/// A curve: for each column the least and the greatest value, or None for a gap.
+/// One edge of a curve: heights, and how far each goes.
+fn edge(out: &mut String, steps: impl Iterator<Item = (f64, f64)>) {
+    let mut steps = steps.map(|(y, x)| (short(y), short(x))).peekable();
+    while let Some((y, mut x)) = steps.next() {
+        while let Some((_, further)) = steps.next_if(|(next, _)| *next == y) {
+            x = further;
+        }
+        *out += &format!("V{y}H{x}");
+    }
+}
+
+/// A curve: for each column the least and the greatest value, or None for a gap. Where frames share
+/// columns it is the area between the two.
 fn path(columns: &Columns, scale: &Scale, values: &[Option<(f64, f64)>]) -> String {
     let mut out = String::new();
     for (first, last) in stretches(values.len(), |column| values[column].is_some()) {
-        let ends = |column: usize| {
+        let y = |column: usize| {
             values[column].map_or((0.0, 0.0), |(low, high)| (scale.y(low), scale.y(high)))
         };
-        let steps =
-            |out: &mut String, order: &mut dyn Iterator<Item = usize>, upper: bool, begin: bool| {
-                let mut at: Option<String> = None;
-                for column in order {
-                    let (low, high) = ends(column);
-                    let y = short(if upper { high } else { low });
-                    let (from, to) = (columns.x(column), columns.x(column + 1));
-                    let (from, to) = if upper { (from, to) } else { (to, from) };
-                    let same = at.as_ref() == Some(&y);
-                    match at {
-                        None if begin => {
-                            let _ = write!(out, "M{} {y}", short(from));
-                        }
-                        None => {
-                            let _ = write!(out, "V{y}");
-                        }
-                        Some(_) if same => {
-                            // The stroke goes on: the last H is made longer.
-                            let h = out.rfind('H').expect("a column before");
-                            out.truncate(h);
-                        }
-                        Some(_) => {
-                            let _ = write!(out, "V{y}");
-                        }
-                    }
-                    let _ = write!(out, "H{}", short(to));
-                    at = Some(y);
-                }
-            };
-        steps(&mut out, &mut (first..=last), true, true);
+        out += &format!("M{} {}", short(columns.x(first)), short(y(first).1));
+        edge(&mut out, (first..=last).map(|column| (y(column).1, columns.x(column + 1))));
         if !columns.is_exact() {
-            steps(&mut out, &mut (first..=last).rev(), false, false);
+            edge(&mut out, (first..=last).rev().map(|column| (y(column).0, columns.x(column))));
             out.push('Z');
         }
     }
@@ -228,48 +234,57 @@ struct Picture<'a> {
 }
 
 impl Picture<'_> {
-    fn rect(&mut self, class: &str, from: f64, to: f64, top: f64, height: f64) {
+    /// An element with a class, and its other attributes.
+    fn element(&mut self, name: &str, class: &str, attributes: &[(&str, f64)]) {
+        let attributes =
+            attributes.iter().map(|(name, value)| format!(" {name}=\"{}\"", short(*value)));
+        self.out += &format!("<{name} class=\"{class}\"{}/>\n", attributes.collect::<String>());
+    }
+
+    /// The rectangle of some columns; one that is thin is still seen.
+    fn rect(&mut self, class: &str, columns: (usize, usize), top: f64, height: f64) {
+        let (from, to) = (self.columns.x(columns.0), self.columns.x(columns.1 + 1));
         let width = (to - from).max(0.8);
-        let _ = writeln!(
-            self.out,
-            "<rect class=\"{class}\" x=\"{}\" y=\"{}\" width=\"{}\" height=\"{}\"/>",
-            short(from),
-            short(top),
-            short(width),
-            short(height)
+        self.element(
+            "rect",
+            class,
+            &[("x", from), ("y", top), ("width", width), ("height", height)],
         );
     }
 
     fn text(&mut self, class: &str, x: f64, y: f64, words: &str) {
-        let _ = writeln!(
-            self.out,
-            "<text class=\"{class}\" x=\"{}\" y=\"{}\">{}</text>",
-            short(x),
-            short(y),
-            escaped(words)
-        );
+        let (x, y) = (short(x), short(y));
+        self.out +=
+            &format!("<text class=\"{class}\" x=\"{x}\" y=\"{y}\">{}</text>\n", escaped(words));
     }
 
     fn line(&mut self, class: &str, from: (f64, f64), to: (f64, f64)) {
-        let _ = writeln!(
-            self.out,
-            "<path class=\"{class}\" d=\"M{} {}L{} {}\"/>",
-            short(from.0),
-            short(from.1),
-            short(to.0),
-            short(to.1)
-        );
+        self.element("line", class, &[("x1", from.0), ("y1", from.1), ("x2", to.0), ("y2", to.1)]);
+    }
+
+    fn path(&mut self, class: &str, d: &str) {
+        if !d.is_empty() {
+            self.out += &format!("<path class=\"{class}\" d=\"{d}\"/>\n");
+        }
+    }
+
+    /// The heading of a panel, and a note at its right end.
+    fn heading(&mut self, top: f64, words: &str, note: &str) {
+        self.text("head", LEFT, top - 8.0, words);
+        if !note.is_empty() {
+            self.text("small right", LEFT + PLOT, top - 8.0, note);
+        }
     }
 
     /// Frames at which the axis has a number.
     fn frame_ticks(&self) -> Vec<usize> {
         let frames = self.run.frames.len();
-        let steps = (0..6).flat_map(|power| [1, 2, 5].map(|digit| digit * 10usize.pow(power)));
-        let step = steps.into_iter().find(|step| frames <= step * 16).unwrap_or(frames);
+        let mut steps = (0..6).flat_map(|power| [1, 2, 5].map(|digit| digit * 10usize.pow(power)));
+        let step = steps.find(|step| frames <= step * 16).unwrap_or(frames);
         (0..frames).step_by(step).collect()
     }
 
-    /// The lines behind a panel at the frames with numbers, and the numbers below it.
+    /// The numbers of frames below a panel, and lines up from them.
     fn frames_axis(&mut self, top: f64, height: f64) {
         for frame in self.frame_ticks() {
             let x = self.columns.middle(frame);
@@ -280,173 +295,145 @@ impl Picture<'_> {
         }
     }
 
-    /// One row a node: what it is in each frame. Each bad stretch is one mark, which tells its
-    /// frames; where many frames share a column a mark may stand for several.
-    fn nodes(&mut self, top: f64) {
-        let step = NODE + 3.0;
-        self.text("head", LEFT, top - 6.0, "nodes");
-        for node in 0..self.run.nodes() {
-            let y = top + step * node as f64;
-            self.text("right", LEFT - 8.0, y + NODE - 4.0, &format!("node {node}"));
-            self.rect("working", LEFT, LEFT + PLOT, y, NODE);
-            let run = self.run;
-            let recovering = |frame: usize| matches!(run.states[frame][node], State::Recovering(_));
-            let mut d = String::new();
-            for (first, last) in self.columns.stretches(recovering) {
-                let (from, to) = (self.columns.x(first), self.columns.x(last + 1));
-                let _ = write!(
-                    d,
-                    "M{} {}H{}v{NODE}H{}Z",
-                    short(from),
-                    short(y),
-                    short(to),
-                    short(from)
-                );
-            }
-            if !d.is_empty() {
-                let _ = writeln!(self.out, "<path class=\"recovering\" d=\"{d}\"/>");
-            }
-            for (first, last) in
-                self.columns.stretches(|frame| run.states[frame][node] == State::Bad)
-            {
-                let frames = self.columns.frames(first).start..self.columns.frames(last).end;
-                let faults: Vec<_> = run
-                    .faults
-                    .iter()
-                    .filter(|fault| fault.node == node && frames.contains(&fault.first))
-                    .collect();
-                let (begin, end) = (faults[0].first, faults[faults.len() - 1].last);
-                let words = match (faults.len(), begin == end) {
-                    (1, true) => format!("node {node} bad in frame {begin}"),
-                    (1, false) => format!("node {node} bad in frames {begin} to {end}"),
-                    (count, _) => {
-                        format!("node {node}: {count} faults from frame {begin} to {end}")
-                    }
-                };
-                let (from, to) = (self.columns.x(first), self.columns.x(last + 1));
-                let _ = writeln!(
-                    self.out,
-                    "<rect class=\"bad\" data-faults=\"{}\" x=\"{}\" y=\"{}\" width=\"{}\" height=\"{NODE}\"><title>{words}</title></rect>",
-                    faults.len(), short(from), short(y), short(to - from)
-                );
-            }
-        }
-        self.frames_axis(top + step * self.run.nodes() as f64 - 3.0, 0.0);
-    }
-
-    /// Least and greatest of the finite values of each column.
-    fn ends(&self, values: &[f64]) -> Vec<Option<(f64, f64)>> {
-        let of = |column: usize| {
-            let finite = values[self.columns.frames(column)]
-                .iter()
-                .copied()
-                .filter(|value| value.is_finite());
-            finite.fold(None, |ends: Option<(f64, f64)>, value| {
-                Some(ends.map_or((value, value), |(low, high)| (low.min(value), high.max(value))))
-            })
-        };
-        (0..self.columns.count).map(of).collect()
-    }
-
-    fn curve(&mut self, class: &str, scale: &Scale, values: &[f64]) {
-        let d = path(&self.columns, scale, &self.ends(values));
-        let area = if self.columns.is_exact() { "" } else { " area" };
-        if !d.is_empty() {
-            let _ = writeln!(self.out, "<path class=\"{class}{area}\" d=\"{d}\"/>");
-        }
-    }
-
     fn value_axis(&mut self, scale: &Scale, ticks: &[f64]) {
         for &tick in ticks {
             let y = scale.y(tick);
             self.line("grid", (LEFT, y), (LEFT + PLOT, y));
-            self.text("small right", LEFT - 8.0, y + 4.0, &decimal(tick));
+            self.text("small right", LEFT - 8.0, y + 4.0, &label(tick));
         }
         self.line("axis", (LEFT, scale.top), (LEFT, scale.top + scale.height));
+    }
+
+    /// One row a node: what it is in each frame.
+    fn nodes(&mut self, top: f64) {
+        let step = NODE + 3.0;
+        let count = self.run.nodes();
+        let note = match self.columns.is_exact() {
+            true => String::new(),
+            false => {
+                let frames = self.columns.frames.div_ceil(self.columns.count);
+                format!("up to {frames} frames share a column; in it a node is bad if it is in one of them")
+            }
+        };
+        self.heading(top, "nodes", &note);
+        for node in 0..count {
+            let y = top + step * node as f64;
+            self.text("right", LEFT - 8.0, y + NODE - 4.0, &format!("node {node}"));
+            self.rect("working", (0, self.columns.count - 1), y, NODE);
+            let run = self.run;
+            let recovering = |frame: usize| matches!(run.states[frame][node], State::Recovering(_));
+            let part = |(first, last): (usize, usize)| {
+                let (from, to) = (short(self.columns.x(first)), short(self.columns.x(last + 1)));
+                format!("M{from} {}H{to}v{NODE}H{from}Z", short(y))
+            };
+            let d: String = self.columns.stretches(recovering).into_iter().map(part).collect();
+            self.path("recovering", &d);
+            self.faults(node, y);
+        }
+        self.frames_axis(top + step * count as f64 - 3.0, 0.0);
+    }
+
+    /// Each fault of a node is one mark, which tells its frames; where frames share columns a mark
+    /// stands for the faults in its columns.
+    fn faults(&mut self, node: usize, y: f64) {
+        let run = self.run;
+        let mut knocks = run.faults.iter().filter(|fault| fault.node == node).peekable();
+        for (first, last) in self.columns.stretches(|frame| run.states[frame][node] == State::Bad) {
+            let end = self.columns.frames(last).end;
+            let faults: Vec<_> =
+                iter::from_fn(|| knocks.next_if(|fault| fault.first < end)).collect();
+            let (Some(begin), Some(last_fault)) = (faults.first(), faults.last()) else { continue };
+            let (begin, end) = (begin.first, last_fault.last);
+            let words = match (faults.len(), begin == end) {
+                (1, true) => format!("node {node} bad in frame {begin}"),
+                (1, false) => format!("node {node} bad in frames {begin} to {end}"),
+                (count, _) => format!("node {node}: {count} faults from frame {begin} to {end}"),
+            };
+            let (from, to) = (self.columns.x(first), self.columns.x(last + 1));
+            self.out += &format!(
+                "<rect class=\"bad\" data-faults=\"{}\" x=\"{}\" y=\"{}\" width=\"{}\" height=\"{NODE}\"><title>{words}</title></rect>\n",
+                faults.len(),
+                short(from),
+                short(y),
+                short(to - from)
+            );
+        }
+    }
+
+    fn curve(&mut self, class: &str, scale: &Scale, values: &[f64]) {
+        let of = |column: usize| ends(finite(&values[self.columns.frames(column)]));
+        let ends: Vec<_> = (0..self.columns.count).map(of).collect();
+        let area = if self.columns.is_exact() { "" } else { " area" };
+        let d = path(&self.columns, scale, &ends);
+        self.path(&format!("{class}{area}"), &d);
     }
 
     fn agreement(&mut self, top: f64) {
         let nodes = self.run.nodes();
         let scale = Scale { low: 0.0, high: nodes as f64 + 0.3, top, height: AGREEMENT };
-        self.text("head", LEFT, top - 6.0, "agreement");
+        self.heading(top, "agreement", "dashed: half of the nodes");
         self.frames_axis(top, AGREEMENT);
-        let mut ticks = vec![0, nodes / 2 + 1, nodes];
+        let mut ticks = vec![0.0, (nodes / 2 + 1) as f64, nodes as f64];
         ticks.dedup();
-        self.value_axis(&scale, &ticks.into_iter().map(|count| count as f64).collect::<Vec<_>>());
+        self.value_axis(&scale, &ticks);
         let half = scale.y(nodes as f64 / 2.0);
         self.line("half", (LEFT, half), (LEFT + PLOT, half));
-        self.text("small right", LEFT + PLOT, top - 6.0, "dashed: half of the nodes");
         let values: Vec<f64> = self.run.frames.iter().map(|frame| frame.agreement as f64).collect();
         self.curve("line", &scale, &values);
     }
 
     fn setpoint(&mut self, top: f64, actuator: usize) {
         let run = self.run;
-        let values = |frames: &[super::listing::Frame]| {
-            frames.iter().map(|frame| f64::from_bits(frame.setpoints[actuator])).collect::<Vec<_>>()
-        };
-        let (own, quiet) = (values(&run.frames), values(&run.without_faults));
+        let value = |frame: &Frame| f64::from_bits(frame.setpoints[actuator]);
+        let own: Vec<f64> = run.frames.iter().map(value).collect();
+        let quiet: Vec<f64> = run.without_faults.iter().map(value).collect();
         let scale = Scale::of(&quiet, &own, top, SETPOINT);
         let off = (0..own.len()).filter(|&frame| run.differs(frame, actuator)).count();
-        let name = &self.names.actuators[actuator];
-        self.text("head", LEFT, top - 6.0, &format!("setpoint {name}"));
-        if off > 0 {
-            let words = format!(
+        let note = match off {
+            0 => String::new(),
+            _ => format!(
                 "not as without faults in {} of {} frames",
                 grouped(off),
                 grouped(own.len())
-            );
-            self.text("small right", LEFT + PLOT, top - 6.0, &words);
-        }
+            ),
+        };
+        self.heading(top, &format!("setpoint {}", cut(&self.names.actuators[actuator], 60)), &note);
         self.frames_axis(top, SETPOINT);
         self.value_axis(&scale, &scale.ticks());
         self.curve("quiet", &scale, &quiet);
         self.curve("line", &scale, &own);
-        for (first, last) in self.columns.stretches(|frame| run.differs(frame, actuator)) {
-            self.rect("off", self.columns.x(first), self.columns.x(last + 1), top - 4.0, 4.0);
+        let marks: [(&str, &dyn Fn(usize) -> bool, f64, f64); 4] = [
+            ("off", &|frame| run.differs(frame, actuator), top - 4.0, 4.0),
+            ("beyond", &|frame| own[frame] > scale.high, top, 4.0),
+            ("beyond", &|frame| own[frame] < scale.low, top + SETPOINT - 4.0, 4.0),
+            ("nan", &|frame| own[frame].is_nan(), top, SETPOINT),
+        ];
+        for (class, test, top, height) in marks {
+            for columns in self.columns.stretches(test) {
+                self.rect(class, columns, top, height);
+            }
         }
-        for (first, last) in self.columns.stretches(|frame| !scale.has(own[frame])) {
-            self.rect(
-                "beyond",
-                self.columns.x(first),
-                self.columns.x(last + 1),
-                top + SETPOINT - 4.0,
-                4.0,
-            );
-        }
-    }
-
-    /// Whether a setpoint is anywhere not a number, or beyond its axis.
-    fn has_beyond(&self) -> bool {
-        self.out.contains("class=\"beyond\"")
     }
 
     fn legend(&mut self, y: f64) {
-        let mut x = LEFT;
-        let mut items = vec![
+        let items = [
             ("working", "working"),
             ("recovering", "recovering"),
             ("bad", "bad"),
             ("line", "setpoint"),
             ("quiet", "without faults"),
+            ("off", "differs from it"),
+            ("beyond", "beyond the axis"),
+            ("nan", "no number"),
         ];
-        if self.out.contains("class=\"off\"") {
-            items.push(("off", "differs from it"));
-        }
-        if self.has_beyond() {
-            items.push(("beyond", "no number, or beyond the axis"));
-        }
-        for (class, words) in items {
+        let mut x = LEFT;
+        for (index, (class, words)) in items.into_iter().enumerate() {
+            if index > 4 && !self.out.contains(&format!("<rect class=\"{class}\"")) {
+                continue;
+            }
             match class {
                 "line" | "quiet" => self.line(class, (x, y - 4.0), (x + 22.0, y - 4.0)),
-                _ => {
-                    let _ = writeln!(
-                        self.out,
-                        "<path class=\"{class}\" d=\"M{} {}h22v10h-22Z\"/>",
-                        short(x),
-                        short(y - 9.0)
-                    );
-                }
+                _ => self.path(class, &format!("M{} {}h22v10h-22Z", short(x), short(y - 9.0))),
             }
             self.text("", x + 28.0, y, words);
             x += 28.0 + 6.0 * words.len() as f64 + 16.0;
@@ -462,28 +449,24 @@ pub fn svg(run: &Run, names: &Names, name: &str) -> String {
     let mut y = 112.0;
     if frames > 0 {
         picture.nodes(y);
-        y += (NODE + 3.0) * run.nodes() as f64 - 3.0 + GAP + 8.0;
+        y += (NODE + 3.0) * run.nodes() as f64 - 3.0 + GAP;
         picture.agreement(y);
-        y += AGREEMENT + GAP + 8.0;
+        y += AGREEMENT + GAP;
         for actuator in 0..run.actuators() {
             picture.setpoint(y, actuator);
-            y += SETPOINT + GAP + 8.0;
+            y += SETPOINT + GAP;
         }
-        y -= GAP - 18.0;
-        picture.text("small middle", LEFT + PLOT / 2.0, y, "frame");
-        y += 14.0;
+        picture.text("small middle", LEFT + PLOT / 2.0, y - GAP + 26.0, "frame");
     }
     picture.legend(76.0);
-    let title = names.title.as_deref().unwrap_or(name);
-    let about = format!("{}; {}", sizes(&run.header, run.period), summary(run));
-    let head = format!(
-        "<svg xmlns=\"http://www.w3.org/2000/svg\" role=\"img\" width=\"{WIDTH}\" height=\"{h}\" viewBox=\"0 0 {WIDTH} {h}\">\n\
-         <title>{t}</title>\n<desc>{a}</desc>\n<style>{STYLE}</style>\n\
-         <rect class=\"ground\" width=\"{WIDTH}\" height=\"{h}\"/>\n\
-         <text class=\"title\" x=\"{LEFT}\" y=\"30\">{t}</text>\n<text x=\"{LEFT}\" y=\"52\">{a}</text>\n",
-        h = short(y),
-        t = escaped(title),
-        a = escaped(&about),
-    );
-    head + &picture.out + "</svg>\n"
+    let title = escaped(&cut(names.title.as_deref().unwrap_or(name), 90));
+    let about = escaped(&format!("{}; {}", sizes(&run.header, run.period), summary(run)));
+    let height = short(y);
+    format!(
+        "<svg xmlns=\"http://www.w3.org/2000/svg\" role=\"img\" width=\"{WIDTH}\" height=\"{height}\" viewBox=\"0 0 {WIDTH} {height}\">\n\
+         <title>{title}</title>\n<desc>{about}</desc>\n<style>{STYLE}</style>\n\
+         <rect class=\"ground\" width=\"{WIDTH}\" height=\"{height}\"/>\n\
+         <text class=\"title\" x=\"{LEFT}\" y=\"30\">{title}</text>\n<text x=\"{LEFT}\" y=\"52\">{about}</text>\n{}</svg>\n",
+        picture.out
+    )
 }

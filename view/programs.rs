@@ -17,6 +17,11 @@ pub struct Missing(pub String);
 
 pub type Found<T> = Result<T, Missing>;
 
+/// A line for the person at the terminal; where it cannot be written nothing is lost.
+pub fn say(words: &str) {
+    let _ = writeln!(std::io::stderr(), "ragbasalt: {words}");
+}
+
 pub fn missing<T>(says: impl Into<String>) -> Found<T> {
     Err(Missing(says.into()))
 }
@@ -141,7 +146,7 @@ impl Programs {
                 Some((_, "unchanged")) => done += 1,
                 Some((name, what)) => {
                     done += 1;
-                    eprintln!("ragbasalt: {done:>2} of {count} {name} {what}, log {LOG}");
+                    say(&format!("{done:>2} of {count} {name} {what}, log {LOG}"));
                 }
                 None => {}
             }
@@ -162,9 +167,7 @@ impl Programs {
             built.extend(names.iter().map(|name| String::from(*name)));
             return Ok(());
         }
-        eprintln!(
-            "ragbasalt: proving and building the program; from nothing this takes some minutes"
-        );
+        say("proving and building the program; from nothing this takes some minutes");
         self.prove("check", names)?;
         // rt leaves a program alone whose sources are the same though newer.
         let now = SystemTime::now();
@@ -179,9 +182,7 @@ impl Programs {
     /// The library for C and Rust: its path below the repository's folder.
     pub fn library(&self) -> Found<&'static str> {
         if !self.is_fresh(&self.root.join(LIBRARY)) {
-            eprintln!(
-                "ragbasalt: proving and building the library; from nothing this takes some minutes"
-            );
+            say("proving and building the library; from nothing this takes some minutes");
             self.prove("staticlib", &["ragbasalt"])?;
         }
         Ok(LIBRARY)
@@ -211,7 +212,7 @@ impl Programs {
         let number = NEXT.fetch_add(1, Ordering::Relaxed);
         let folder =
             std::env::temp_dir().join(format!("ragbasalt-{}-{number}", std::process::id()));
-        let written = fs::create_dir_all(&folder).and_then(|()| {
+        let written = fs::create_dir(&folder).and_then(|()| {
             files.iter().try_for_each(|(file, bytes)| fs::write(folder.join(file), bytes))
         });
         let output = match written {

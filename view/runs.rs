@@ -1,12 +1,13 @@
 //! Runs: their texts, and the form that people write. docs/NAMED.md has the grammar.
 
+use std::cmp::Reverse;
 use std::collections::BTreeMap;
 
 use super::cause::run_line;
-use super::named::{fault, find, small, value, words, Fault};
 use super::names::Names;
 use super::pattern;
 use super::text::{number, push, Row};
+use super::words::{fault, find, is_number, small, value, words, Fault};
 
 /// "10: .. or line 100,001"
 pub const MOST: usize = 100_000;
@@ -38,7 +39,7 @@ pub fn text(lines: &[Line]) -> Vec<u8> {
     out
 }
 
-/// The same run with nobody bad.
+/// The first lines of a run text with nobody bad.
 pub fn without_faults(run: &[u8], sensors: usize, lines: usize) -> Vec<u8> {
     let size = run_line(sensors);
     let mut out = run[..lines * size].to_vec();
@@ -46,112 +47,144 @@ pub fn without_faults(run: &[u8], sensors: usize, lines: usize) -> Vec<u8> {
     out
 }
 
+/// Where a line of a run stands in the named run, and where its fill was told.
+#[derive(Clone, Debug)]
+pub struct Source {
+    pub line: usize,
+    pub fill: (usize, String),
+}
+
 /// A named run, read.
-#[derive(Debug)]
+#[derive(Debug, Default)]
 pub struct NamedRun {
     pub lines: Vec<Line>,
-    /// For each line of the run that of the named run.
-    pub sources: Vec<usize>,
+    /// For each line.
+    pub sources: Vec<Source>,
 }
+
+/// A fill with its place.
+type Fill = (u64, (usize, String));
+
+/// The words behind the values of a frame.
+const BEHIND: [&str; 4] = ["bad", "fill", "silent", "times"];
 
 struct Reader<'a> {
     names: &'a Names,
     nodes: u64,
     /// Which sensor each value of a line is of.
     order: Vec<usize>,
-    fill: u64,
+    fill: Fill,
     run: NamedRun,
 }
 
-impl Reader<'_> {
-    fn fill(line: usize, rest: &mut &[&str]) -> Result<Option<u64>, Fault> {
-        let (fill, left) = match **rest {
-            ["silent", ref left @ ..] => (SILENT, left),
-            ["fill", word, ref left @ ..] => (small(line, word, "a fill")?, left),
-            ["fill"] => return fault(line, "fill", "a number from 0 to 255 has to follow"),
-            _ => return Ok(None),
-        };
-        *rest = left;
-        Ok(Some(fill))
-    }
+/// The words up to the next of those that stand behind the values.
+fn upto<'w, 'l>(words: &'l [&'w str]) -> (&'l [&'w str], &'l [&'w str]) {
+    let end = words.iter().position(|word| BEHIND.contains(word)).unwrap_or(words.len());
+    words.split_at(end)
+}
 
-    /// `bad 0 4`
-    fn mask(&self, line: usize, rest: &mut &[&str]) -> Result<u64, Fault> {
-        let Some(("bad", words)) = rest.split_first().map(|(first, words)| (*first, words)) else {
-            return Ok(0);
-        };
-        let count =
-            words.iter().take_while(|word| word.bytes().all(|byte| byte.is_ascii_digit())).count();
-        if count == 0 {
+/// `fill 7` or `silent`, if it stands there, and the words behind it.
+fn fill<'w, 'l>(line: usize, words: &'l [&'w str]) -> Result<(Option<Fill>, &'l [&'w str]), Fault> {
+    let told = |fill: u64, word: &str| Some((fill, (line, String::from(word))));
+    match *words {
+        ["silent", ref rest @ ..] => Ok((told(SILENT, "silent"), rest)),
+        ["fill", word, ref rest @ ..] => {
+            Ok((told(small(line, word, "a fill", "0 to 255")?, word), rest))
+        }
+        ["fill"] => fault(line, "fill", "a number from 0 to 255 has to follow"),
+        _ => Ok((None, words)),
+    }
+}
+
+/// `times 5`, if it stands there, and the words behind it.
+fn times<'w, 'l>(line: usize, words: &'l [&'w str]) -> Result<(usize, &'l [&'w str]), Fault> {
+    let says = "how many frames are alike is a whole number, 1 to 100000";
+    match *words {
+        ["times", word, ref rest @ ..] => match word.parse() {
+            Ok(count) if is_number(word) && (1..=MOST).contains(&count) => Ok((count, rest)),
+            _ => fault(line, word, says),
+        },
+        ["times"] => fault(line, "times", says),
+        _ => Ok((1, words)),
+    }
+}
+
+impl Reader<'_> {
+    /// `bad 0 4`, if it stands there, and the words behind it.
+    fn mask<'w, 'l>(
+        &self,
+        line: usize,
+        words: &'l [&'w str],
+    ) -> Result<(u64, &'l [&'w str]), Fault> {
+        let ["bad", ref rest @ ..] = *words else { return Ok((0, words)) };
+        let (nodes, rest) = upto(rest);
+        if nodes.is_empty() {
             return fault(line, "bad", "the numbers of the bad nodes have to follow");
         }
+        let limits = match self.nodes {
+            1 => String::from("0 alone"),
+            nodes => format!("0 to {}", nodes - 1),
+        };
         let mut mask = 0;
-        for word in &words[..count] {
-            let node = small(line, word, "a node")?;
+        for word in nodes {
+            let node = small(line, word, "a node", &limits)?;
             if node >= self.nodes {
-                return fault(line, word, format!("the plan has {} nodes, from 0 on", self.nodes));
+                return fault(
+                    line,
+                    word,
+                    format!("the plan has no such node; its nodes are {limits}"),
+                );
             }
             if mask >> node & 1 == 1 {
                 return fault(line, word, "this node stands there already");
             }
             mask |= 1 << node;
         }
-        *rest = &words[count..];
-        Ok(mask)
+        Ok((mask, rest))
     }
 
     fn frame(&mut self, line: usize, words: &[&str]) -> Result<(), Fault> {
-        let sensors = self.order.len();
-        let given = words
-            .iter()
-            .take_while(|word| word.starts_with(|c: char| c == '-' || c.is_ascii_digit()))
-            .count();
-        if given != sensors {
-            let word = words.get(given.min(sensors)).unwrap_or(&"");
-            return fault(
-                line,
-                word,
-                format!("{given} values stand here, and the plan has {sensors} sensors"),
-            );
+        let (values, rest) = upto(words);
+        let mut patterns = vec![0; self.order.len()];
+        for (index, word) in values.iter().enumerate() {
+            let pattern = value(line, word)?;
+            match self.order.get(index) {
+                Some(&sensor) => patterns[sensor] = pattern,
+                None => return fault(line, word, self.count(values.len())),
+            }
         }
-        let mut patterns = vec![0; sensors];
-        for (word, &sensor) in words.iter().zip(&self.order) {
-            patterns[sensor] = value(line, word)?;
+        if values.len() < self.order.len() {
+            let word = rest.first().or(values.last()).unwrap_or(&"");
+            return fault(line, word, self.count(values.len()));
         }
-        let mut rest = &words[sensors..];
-        let mask = self.mask(line, &mut rest)?;
-        let fill = Self::fill(line, &mut rest)?.unwrap_or(self.fill);
-        let mut times = 1;
-        if let ["times", word, ref left @ ..] = *rest {
-            times = match word.parse::<usize>() {
-                Ok(times) if (1..=MOST).contains(&times) => times,
-                _ => {
-                    return fault(
-                        line,
-                        word,
-                        "how many frames are like this: a number from 1 to 100000",
-                    )
-                }
-            };
-            rest = left;
-        }
+        let (mask, rest) = self.mask(line, rest)?;
+        let (told, rest) = fill(line, rest)?;
+        let (times, rest) = times(line, rest)?;
         if let Some(word) = rest.first() {
-            return fault(
-                line,
-                word,
-                "behind the values stand: bad NODES, fill NUMBER or silent, times COUNT",
-            );
+            let says = "behind the values stand, in this order: bad NODES, fill NUMBER or silent, times COUNT";
+            return fault(line, word, says);
         }
         if self.run.lines.len() + times > MOST {
-            return fault(line, "", "a run has at most 100,000 frames");
+            return fault(line, words[0], "a run has at most 100,000 frames");
         }
+        let (fill, place) = told.unwrap_or_else(|| self.fill.clone());
         let numbers: Line = [mask, fill].into_iter().chain(patterns).collect();
         self.run.lines.extend(std::iter::repeat_n(numbers, times));
-        self.run.sources.extend(std::iter::repeat_n(line, times));
+        self.run.sources.extend(std::iter::repeat_n(Source { line, fill: place }, times));
         Ok(())
     }
 
-    /// `sensors speed cyan`: the order of the values from here on
+    fn count(&self, given: usize) -> String {
+        let plural = |count: usize| if count == 1 { "" } else { "s" };
+        let sensors = self.order.len();
+        format!(
+            "{given} value{} in this line, and the plan has {sensors} sensor{}",
+            plural(given),
+            plural(sensors)
+        )
+    }
+
+    /// `sensors speed cyan`: the order of the values from here on.
     fn sensors(&mut self, line: usize, words: &[&str]) -> Result<(), Fault> {
         let mut order = Vec::new();
         for word in words {
@@ -169,25 +202,18 @@ impl Reader<'_> {
     }
 
     fn line(&mut self, line: usize, words: &[&str]) -> Result<(), Fault> {
-        let mut rest = words;
         match words {
             [] => Ok(()),
             ["sensors", names @ ..] => self.sensors(line, names),
-            ["fill" | "silent", ..] => {
-                self.fill = Self::fill(line, &mut rest)?.expect("a fill");
-                match rest.first() {
-                    Some(word) => fault(line, word, "nothing more stands in this line"),
-                    None => Ok(()),
+            ["fill" | "silent", ..] => match fill(line, words)? {
+                (Some(told), []) => {
+                    self.fill = told;
+                    Ok(())
                 }
-            }
-            [first, ..] if first.starts_with(|c: char| c == '-' || c.is_ascii_digit()) => {
-                self.frame(line, words)
-            }
-            [first, ..] => fault(
-                line,
-                first,
-                "a line begins with a sensor's value, or with sensors, fill or silent",
-            ),
+                (_, rest) => fault(line, rest[0], "nothing more stands in this line"),
+            },
+            ["bad" | "times", ..] => fault(line, words[0], "the sensors' values come first"),
+            _ => self.frame(line, words),
         }
     }
 }
@@ -197,8 +223,8 @@ pub fn read(file: &str, header: &Row, names: &Names) -> Result<NamedRun, Fault> 
         names,
         nodes: header[1],
         order: (0..names.sensors.len()).collect(),
-        fill: 0,
-        run: NamedRun { lines: Vec::new(), sources: Vec::new() },
+        fill: (0, (0, String::new())),
+        run: NamedRun::default(),
     };
     for (index, line) in file.lines().enumerate() {
         reader.line(index + 1, &words(line))?;
@@ -207,12 +233,9 @@ pub fn read(file: &str, header: &Row, names: &Names) -> Result<NamedRun, Fault> 
 }
 
 /// The nodes of a mask.
-pub fn nodes(mask: u64) -> impl Iterator<Item = u32> {
-    (0..64).filter(move |node| mask >> node & 1 == 1)
-}
-
-pub fn node_list(mask: u64) -> String {
-    nodes(mask).map(|node| node.to_string()).collect::<Vec<_>>().join(" ")
+pub fn nodes(mask: u64) -> String {
+    let nodes = (0..u64::BITS).filter(|node| mask >> node & 1 == 1);
+    nodes.map(|node| node.to_string()).collect::<Vec<_>>().join(" ")
 }
 
 /// `fill 7` or `silent`
@@ -223,34 +246,37 @@ fn fill_text(fill: u64) -> String {
     }
 }
 
+/// The fill that most lines have, of several the least.
+fn usual_fill(lines: &[Line]) -> u64 {
+    let mut counts = BTreeMap::new();
+    lines.iter().for_each(|line| *counts.entry(line[1]).or_insert(0) += 1);
+    counts
+        .into_iter()
+        .max_by_key(|&(fill, count)| (count, Reverse(fill)))
+        .map_or(0, |(fill, _)| fill)
+}
+
 /// The named form of the lines of a run.
 pub fn write(lines: &[Line], names: &Names) -> String {
-    let mut fills = BTreeMap::new();
-    lines.iter().for_each(|line| *fills.entry(line[1]).or_insert(0) += 1);
-    let usual = fills
-        .iter()
-        .max_by_key(|(&fill, &count)| (count, std::cmp::Reverse(fill)))
-        .map_or(0, |(&fill, _)| fill);
-    let mut widths: Vec<usize> = names.sensors.iter().map(|name| name.chars().count()).collect();
-    let alike: Vec<&[Line]> = lines.chunk_by(|one, next| one == next).collect();
+    let usual = usual_fill(lines);
     let values =
         |line: &Line| line[2..].iter().map(|&value| pattern::written(value)).collect::<Vec<_>>();
+    let mut widths: Vec<usize> = names.sensors.iter().map(|name| name.chars().count()).collect();
+    let alike: Vec<&[Line]> = lines.chunk_by(|one, next| one == next).collect();
     for lines in &alike {
-        for (width, value) in widths.iter_mut().zip(values(&lines[0])) {
-            *width = value.len().max(*width);
-        }
+        let wider = widths.iter_mut().zip(values(&lines[0]));
+        wider.for_each(|(width, value)| *width = value.len().max(*width));
     }
-    let mut out = format!("{}\n", fill_text(usual));
-    let row = |words: Vec<String>| {
+    let row = |words: &[String]| {
         let padded = words.iter().zip(&widths).map(|(word, &width)| format!("{word:>width$}"));
         padded.collect::<Vec<_>>().join("  ")
     };
-    out += &format!("sensors  {}\n", row(names.sensors.clone()));
+    let mut out = format!("{}\nsensors  {}\n", fill_text(usual), row(&names.sensors));
     for lines in alike {
         let line = &lines[0];
-        out += &format!("         {}", row(values(line)));
+        out += &format!("         {}", row(&values(line)));
         if line[0] != 0 {
-            out += &format!("  bad {}", node_list(line[0]));
+            out += &format!("  bad {}", nodes(line[0]));
         }
         if line[1] != usual {
             out += &format!("  {}", fill_text(line[1]));

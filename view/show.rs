@@ -1,11 +1,14 @@
 //! The listing as a table for people.
 
+use std::ops::RangeInclusive;
+
 use super::listing::{Run, State};
 use super::names::Names;
-use super::pattern::shown;
-use super::runs::node_list;
+use super::pattern::{decimal, shown};
+use super::runs::nodes;
+use super::text::Row;
 
-/// Runs of more frames are shown by those in which something changed.
+/// Of runs with more frames, those that are alike share a row.
 const SHORT: usize = 50;
 
 /// `100,000`
@@ -26,14 +29,10 @@ fn plural(count: usize, what: &str) -> String {
 }
 
 /// `5 nodes, 2 frames, 13 cells, R = 3`
-pub fn sizes(header: &[u64; 6], period: usize) -> String {
+pub fn sizes(header: &Row, period: usize) -> String {
     let [_, nodes, frames, cells, _, _] = header.map(|number| number as usize);
-    format!(
-        "{}, {}, {}, R = {period}",
-        plural(nodes, "node"),
-        plural(frames, "frame"),
-        plural(cells, "cell")
-    )
+    let sizes = [plural(nodes, "node"), plural(frames, "frame"), plural(cells, "cell")];
+    format!("{}, R = {period}", sizes.join(", "))
 }
 
 /// What a run comes to, in one line.
@@ -43,112 +42,129 @@ pub fn summary(run: &Run) -> String {
         0 => String::from("every setpoint as without faults"),
         _ => format!("setpoints off in {}", plural(off, "frame")),
     };
-    format!(
-        "{} run, {}, {off}",
-        plural(run.frames.len(), "frame"),
-        plural(run.faults.len(), "fault")
-    )
+    let (frames, faults) = (run.frames.len(), run.faults.len());
+    let ended = run.refusal.map_or(String::new(), |refusal| {
+        format!(", ended by refusal {} of line {}", refusal.number, refusal.line)
+    });
+    format!("{} run, {}, {off}{ended}", plural(frames, "frame"), plural(faults, "fault"))
 }
 
-fn state(state: State) -> String {
-    match state {
-        State::Bad => String::from("BAD"),
-        State::Recovering(count) => format!("+{count}"),
-        State::Working => String::from("ok"),
-    }
+/// Whether a frame's nodes, counts and marks are those of the frame before it. Setpoints that move
+/// and a recovering node's count are no change: on a running press they are in every frame.
+fn is_alike(run: &Run, frame: usize) -> bool {
+    let kind = |state: &State| std::mem::discriminant(state);
+    let states = |frame: usize| run.states[frame].iter().map(kind);
+    let counts = |frame: usize| (run.frames[frame].equal, run.frames[frame].agreement);
+    let marks =
+        |frame: usize| (0..run.actuators()).map(move |actuator| run.differs(frame, actuator));
+    states(frame).eq(states(frame - 1))
+        && counts(frame) == counts(frame - 1)
+        && marks(frame).eq(marks(frame - 1))
 }
 
-/// What has to stay the same for a frame to be left out: states but for the count, the two counts,
-/// the marks.
-fn key(run: &Run, frame: usize) -> (Vec<u8>, u64, u64, Vec<bool>) {
-    let kind = |state: &State| match state {
-        State::Bad => 0,
-        State::Recovering(_) => 1,
-        State::Working => 2,
-    };
-    let line = &run.frames[frame];
-    let marks = (0..run.actuators()).map(|actuator| run.differs(frame, actuator)).collect();
-    (run.states[frame].iter().map(kind).collect(), line.equal, line.agreement, marks)
-}
-
-/// The frames to show: all, or of a long run those that are not as the one before, the last, and
-/// those that would stand alone in a gap.
-fn chosen(run: &Run, all: bool) -> Vec<usize> {
+/// The frames of each row: one by one, or of a long run each that changed and those alike behind it.
+fn rows(run: &Run, all: bool) -> Vec<RangeInclusive<usize>> {
     let count = run.frames.len();
-    if all || count <= SHORT {
-        return (0..count).collect();
+    let single = |frame: usize| {
+        all || count <= SHORT || frame == 0 || frame + 1 == count || !is_alike(run, frame)
+    };
+    let mut rows: Vec<RangeInclusive<usize>> = Vec::new();
+    let mut joins = false;
+    for frame in 0..count {
+        match (single(frame), rows.last_mut()) {
+            (false, Some(last)) if joins => *last = *last.start()..=frame,
+            _ => rows.push(frame..=frame),
+        }
+        joins = !single(frame);
     }
-    let keys: Vec<_> = (0..count).map(|frame| key(run, frame)).collect();
-    let changed = |frame: usize| frame == 0 || frame + 1 >= count || keys[frame] != keys[frame - 1];
-    let alone = |frame: usize| changed(frame - 1) && changed(frame + 1);
-    (0..count).filter(|&frame| changed(frame) || alone(frame)).collect()
+    rows
 }
 
-fn row(run: &Run, frame: usize) -> Vec<String> {
-    let line = &run.frames[frame];
-    let bad = node_list(run.masks[frame]);
-    let mut row = vec![frame.to_string(), if bad.is_empty() { String::from("-") } else { bad }];
-    row.extend(run.states[frame].iter().map(|&one| state(one)));
+fn state(first: State, last: State) -> String {
+    match (first, last) {
+        (State::Bad, _) => String::from("BAD"),
+        (State::Recovering(from), State::Recovering(to)) if from < to => format!("+{from}-{to}"),
+        (State::Recovering(count), _) => format!("+{count}"),
+        (State::Working, _) => String::from("ok"),
+    }
+}
+
+/// The values of a setpoint in some frames: one, or the least and the greatest to four digits.
+fn setpoint(run: &Run, frames: &RangeInclusive<usize>, actuator: usize) -> String {
+    let patterns = || frames.clone().map(|frame| run.frames[frame].setpoints[actuator]);
+    let first = run.frames[*frames.start()].setpoints[actuator];
+    if patterns().all(|pattern| pattern == first) {
+        return shown(first);
+    }
+    let values = || patterns().map(f64::from_bits).filter(|value| !value.is_nan());
+    let round = |value: f64| match value.is_finite() {
+        true => decimal(format!("{value:.3e}").parse().unwrap_or(value)),
+        false => shown(value.to_bits()),
+    };
+    let (least, greatest) = (values().reduce(f64::min), values().reduce(f64::max));
+    let ends = least
+        .zip(greatest)
+        .map(|(least, greatest)| format!("{}..{}", round(least), round(greatest)));
+    let gaps =
+        patterns().any(|pattern| f64::from_bits(pattern).is_nan()).then(|| String::from("NaN"));
+    [ends, gaps].into_iter().flatten().collect::<Vec<_>>().join(",")
+}
+
+fn row(run: &Run, frames: &RangeInclusive<usize>) -> Vec<String> {
+    let (first, last) = (*frames.start(), *frames.end());
+    let line = &run.frames[first];
+    let number = if first == last { first.to_string() } else { format!("{first}-{last}") };
+    let bad = Some(nodes(run.masks[first])).filter(|bad| !bad.is_empty());
+    let mut row = vec![number, bad.unwrap_or_else(|| String::from("-"))];
+    let states = run.states[first].iter().zip(&run.states[last]);
+    row.extend(states.map(|(&first, &last)| state(first, last)));
     row.extend([line.equal.to_string(), line.agreement.to_string()]);
     row.extend((0..run.actuators()).map(|actuator| {
-        let mark = if run.differs(frame, actuator) { '*' } else { ' ' };
-        format!("{}{mark}", shown(line.setpoints[actuator]))
+        let mark = if run.differs(first, actuator) { '*' } else { ' ' };
+        format!("{}{mark}", setpoint(run, frames, actuator))
     }));
     row
 }
 
-/// The table, with a line where frames are left out, and what the words in it mean.
+/// The table, and what the words in it mean.
 pub fn table(run: &Run, names: &Names, all: bool) -> String {
-    let mut out = format!("{}; {}\n\n", sizes(&run.header, run.period), summary(run));
+    let about = format!("{}; {}\n", sizes(&run.header, run.period), summary(run));
     if run.frames.is_empty() {
-        return out;
+        return about;
     }
     let mut head = vec![String::from("frame"), String::from("bad")];
     head.extend((0..run.nodes()).map(|node| format!("n{node}")));
     head.extend([String::from("equal"), String::from("agree")]);
     head.extend(names.actuators.iter().map(|name| format!("{name} ")));
-    let frames = chosen(run, all);
-    let rows: Vec<_> = frames.iter().map(|&frame| row(run, frame)).collect();
-    let width = |column: usize| {
-        let cells = rows.iter().map(|row| row[column].chars().count());
-        cells.max().unwrap_or(0).max(head[column].chars().count())
+    let frames = rows(run, all);
+    let shared = frames.len() < run.frames.len();
+    let mut lines = vec![head];
+    lines.extend(frames.iter().map(|frames| row(run, frames)));
+    let width = |column: usize| lines.iter().map(|line| line[column].chars().count()).max();
+    let widths: Vec<_> = (0..lines[0].len()).map(|column| width(column).unwrap_or(0)).collect();
+    let padded = |line: &Vec<String>| {
+        let cells = line.iter().zip(&widths).map(|(cell, &width)| format!("{cell:>width$}"));
+        format!("{}\n", cells.collect::<Vec<_>>().join("  ").trim_end())
     };
-    let widths: Vec<_> = (0..head.len()).map(width).collect();
-    let mut line = |cells: &[String]| {
-        let padded = cells.iter().zip(&widths).map(|(cell, &width)| format!("{cell:>width$}"));
-        let text = padded.collect::<Vec<_>>().join("  ");
-        out += text.trim_end();
-        out.push('\n');
-    };
-    line(&head);
-    let mut due = 0;
-    for (&frame, row) in frames.iter().zip(&rows) {
-        if frame > due {
-            line(&[format!(
-                "  .. {due} to {}: nodes, counts and marks as in frame {}",
-                frame - 1,
-                due - 1
-            )]);
-        }
-        line(row);
-        due = frame + 1;
-    }
-    out += &legend(run);
-    out
+    let table: String = lines.iter().map(padded).collect();
+    format!("{about}\n{table}\n{}", legend(run, shared))
 }
 
-fn legend(run: &Run) -> String {
+fn legend(run: &Run, shared: bool) -> String {
     let nodes = match run.nodes() {
         1 => String::from("n0"),
         count => format!("n0 to n{}", count - 1),
     };
     let mut out = format!(
-        "\n{nodes}: ok working; BAD bad; +1, +2 and so on: recovering, good for so many frames, working after {}\n\
+        "{nodes}: ok working; BAD bad; +1, +2 and so on: recovering, good for so many frames, working after {}\n\
          equal: nodes whose memory is that of a controller that never failed; agree: the least agreement of a good node\n",
         run.period
     );
     if (0..run.frames.len()).any(|frame| run.any_differs(frame)) {
         out += "*: not what a press without faults gets (the same run with nobody bad, by the proved program)\n";
+    }
+    if shared {
+        out += "a row of several frames: nodes, counts and marks are the same in all, setpoints from least to greatest; --all shows each\n";
     }
     out
 }

@@ -3,10 +3,11 @@
 use super::cases::case;
 use super::plan;
 use super::random::{Random, Values};
-use super::view::named::{self, Fault};
+use super::view::named;
 use super::view::names::Names;
 use super::view::programs::{refusal, Checked};
 use super::view::text::{self, Row};
+use super::view::words::Fault;
 use super::view::{cause, pattern, runs};
 use super::{each, same, Tested, Tree};
 

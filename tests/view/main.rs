@@ -37,6 +37,7 @@ mod view {
     pub mod runs;
     pub mod show;
     pub mod text;
+    pub mod words;
 }
 
 mod forms;

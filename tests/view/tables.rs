@@ -26,7 +26,7 @@ pub fn run(
     let accepted = Accepted { plan, rows, period: read.period, names: names.clone() };
     let file = RunFile { file: String::from("run.txt"), text: run_text, named: None };
     match followed(&accepted, &file, &tree.programs) {
-        Ok((run, _)) => Ok(Some((run, names))),
+        Ok(run) => Ok(Some((run, names))),
         Err(_) => Err(String::from("the run cannot be followed")),
     }
 }
@@ -67,27 +67,63 @@ fn check_table(run: &Run, names: &Names) -> Result<(), String> {
     Ok(())
 }
 
-/// Of a long run every frame whose nodes, counts or marks changed is shown.
+/// The frames of a row: `7` or `8-40`.
+fn frames_of(word: &str) -> Option<std::ops::RangeInclusive<usize>> {
+    let (first, last) = word.split_once('-').unwrap_or((word, word));
+    Some(first.parse().ok()?..=last.parse().ok()?)
+}
+
+/// A number to four digits.
+fn rounded(value: f64) -> f64 {
+    format!("{value:.3e}").parse().unwrap_or(value)
+}
+
+/// Of a long run: every frame once, those that share a row alike in all but moving setpoints, of
+/// which the least and the greatest are shown.
 fn check_short_table(run: &Run, names: &Names) -> Result<(), String> {
     let table = show::table(run, names, false);
-    let shown = |frame: usize| {
-        let word = frame.to_string();
-        table.lines().skip(3).any(|line| line.split_whitespace().next() == Some(word.as_str()))
-    };
-    for frame in 1..run.frames.len() {
-        let (before, now) = (&run.frames[frame - 1], &run.frames[frame]);
-        let marks = |frame: usize| {
-            (0..run.actuators()).map(|actuator| run.differs(frame, actuator)).collect::<Vec<_>>()
-        };
-        let changed = run.masks[frame] != run.masks[frame - 1]
-            || (before.working, before.equal, before.agreement)
-                != (now.working, now.equal, now.agreement)
-            || marks(frame) != marks(frame - 1);
-        if changed && !shown(frame) {
-            return Err(format!("frame {frame} is not shown\n{table}"));
+    let mut due = 0;
+    for line in table.lines().skip(3) {
+        let words: Vec<&str> = line.split_whitespace().collect();
+        let Some(frames) = words.first().and_then(|word| frames_of(word)) else { break };
+        same("the next frame", *frames.start(), due)?;
+        due = *frames.end() + 1;
+        let (first, setpoints) = (due - frames.clone().count(), words.len() - run.actuators());
+        for frame in frames.clone() {
+            let alike = |frame: usize| {
+                let line = &run.frames[frame];
+                (run.masks[frame], line.working, line.equal, line.agreement)
+            };
+            same("frames in one row", alike(frame), alike(first))
+                .map_err(|report| report + &table)?;
+        }
+        for (actuator, word) in words[setpoints..].iter().enumerate() {
+            let values = || {
+                frames.clone().map(|frame| f64::from_bits(run.frames[frame].setpoints[actuator]))
+            };
+            let patterns = |value: f64| value.to_bits();
+            if values().map(patterns).all(|bits| bits == values().next().map_or(0, patterns)) {
+                continue;
+            }
+            for frame in frames.clone() {
+                same("a mark", run.differs(frame, actuator), word.ends_with('*'))?;
+            }
+            let (ends, gaps) = word
+                .trim_end_matches('*')
+                .split_once(",NaN")
+                .map_or((word.trim_end_matches('*'), false), |(ends, _)| (ends, true));
+            same("NaN in a row", gaps || ends == "NaN", values().any(f64::is_nan))?;
+            let Some((least, greatest)) = ends.split_once("..") else { continue };
+            let numbers = || values().filter(|value| !value.is_nan());
+            let (low, high) = (
+                numbers().fold(f64::INFINITY, f64::min),
+                numbers().fold(f64::NEG_INFINITY, f64::max),
+            );
+            same("least", least.parse().ok(), Some(rounded(low)))?;
+            same("greatest", greatest.parse().ok(), Some(rounded(high)))?;
         }
     }
-    Ok(())
+    same("frames shown", due, run.frames.len()).map_err(|report| report + &table)
 }
 
 pub fn all(tree: &Tree) -> Tested {

@@ -1,9 +1,9 @@
 //! `./ragbasalt` as a user calls it: what goes where, and the exit status.
 
 use std::fs;
-use std::os::unix::fs::PermissionsExt;
-use std::path::Path;
-use std::process::Command;
+use std::os::unix::fs::{symlink, PermissionsExt};
+use std::path::PathBuf;
+use std::process::{Command, Stdio};
 
 use super::{same, Tested, Tree};
 
@@ -16,74 +16,311 @@ pub struct Output {
 fn outcome(command: &mut Command) -> Output {
     let output = command.output().expect("a command that can be run");
     let text = |bytes: &[u8]| String::from_utf8_lossy(bytes).into_owned();
-    Output {
-        status: output.status.code().unwrap_or(-1),
-        out: text(&output.stdout),
-        errors: text(&output.stderr),
-    }
+    let status = output.status.code().unwrap_or(-1);
+    Output { status, out: text(&output.stdout), errors: text(&output.stderr) }
+}
+
+fn command(tree: &Tree, arguments: &[&str]) -> Command {
+    let mut command = Command::new(tree.root.join("ragbasalt"));
+    command.args(arguments).current_dir(&tree.root);
+    command
 }
 
 pub fn call(tree: &Tree, arguments: &[&str]) -> Output {
-    outcome(Command::new(tree.root.join("ragbasalt")).args(arguments).current_dir(&tree.root))
+    outcome(&mut command(tree, arguments))
 }
 
-/// Status 2: nothing printed, one line of errors that says what and what to do.
-fn stopped(tree: &Tree, arguments: &[&str], words: &[&str]) -> Result<(), String> {
-    let output = call(tree, arguments);
-    let what = format!("{arguments:?}: {}{}", output.out, output.errors);
-    same(&what, (output.status, output.out.as_str(), output.errors.lines().count()), (2, "", 1))?;
-    match words.iter().all(|word| output.errors.contains(word))
-        && output.errors.starts_with("ragbasalt: ")
-    {
-        true => Ok(()),
-        false => Err(format!("{what} does not say {words:?}")),
+/// A folder for files of the tests.
+struct Work<'a> {
+    tree: &'a Tree,
+    folder: PathBuf,
+}
+
+impl Work<'_> {
+    fn at(&self, name: &str) -> String {
+        self.folder.join(name).display().to_string()
+    }
+
+    fn file(&self, name: &str, bytes: impl AsRef<[u8]>) -> Result<String, String> {
+        let path = self.folder.join(name);
+        let parent = path.parent().expect("a folder");
+        let written = fs::create_dir_all(parent).and_then(|()| fs::write(&path, bytes));
+        written.map(|()| self.at(name)).map_err(|error| error.to_string())
+    }
+
+    fn example(&self, name: &str) -> Result<String, String> {
+        let path = self.tree.root.join("examples").join(name);
+        fs::read_to_string(&path).map_err(|error| format!("{}: {error}", path.display()))
+    }
+
+    /// Status 0, this output, nothing else.
+    fn right(&self, arguments: &[&str], wanted: &str) -> Result<(), String> {
+        let output = call(self.tree, arguments);
+        let got = (output.status, output.out.as_str(), output.errors.as_str());
+        same(&format!("{arguments:?}"), got, (0, wanted, ""))
+    }
+
+    /// Status 2: nothing printed, one line of errors that says what and what to do.
+    fn stopped(&self, arguments: &[&str], words: &[&str]) -> Result<(), String> {
+        let output = call(self.tree, arguments);
+        let what = format!("{arguments:?}: {}{}", output.out, output.errors);
+        let got = (output.status, output.out.as_str(), output.errors.lines().count());
+        same(&what, got, (2, "", 1))?;
+        let said = words.iter().all(|word| output.errors.contains(word));
+        match said && output.errors.starts_with("ragbasalt: ") {
+            true => Ok(()),
+            false => Err(format!("{what} does not say {words:?}")),
+        }
+    }
+
+    /// Status 1: this output, and among the errors these words.
+    fn refused(&self, arguments: &[&str], out: &str, words: &str) -> Result<(), String> {
+        let output = call(self.tree, arguments);
+        let what = format!("{arguments:?}: {}{} does not say {words}", output.out, output.errors);
+        let got = (output.status, output.out.as_str(), output.errors.contains(words));
+        same(&what, got, (1, out, true))
     }
 }
 
-fn file(path: &Path, bytes: &[u8]) -> Result<String, String> {
-    fs::create_dir_all(path.parent().expect("a folder"))
-        .and_then(|()| fs::write(path, bytes))
-        .map_err(|error| error.to_string())?;
-    Ok(path.display().to_string())
+fn everything_right(work: &Work) -> Result<(), String> {
+    let listing = work.example("k/listing.txt")?;
+    for arguments in [&["run", "examples/k"][..], &["examples/k"], &["examples/k/"], &["run"], &[]]
+    {
+        work.right(arguments, &listing)?;
+    }
+    let accepted = "accepted: 5 nodes, 2 frames, 13 cells, R = 3\n";
+    work.right(&["check", "examples/press/plan.txt"], accepted)?;
+    work.right(&["check", "examples/press/plan.named"], accepted)?;
+    work.right(&["check", "examples/press"], accepted)?;
+    let histories = work.example("k/histories.txt")?;
+    for arguments in
+        [&["histories", "examples/k/plan.txt"][..], &["histories", "examples/k"], &["histories"]]
+    {
+        work.right(arguments, &histories)?;
+    }
+    work.right(&["histories", "examples/numbering"], &work.example("numbering/histories.txt")?)?;
+    work.right(&["plan", "examples/press/plan.named"], &work.example("press/plan.txt")?)?;
+    let run = work.example("press/run.txt")?;
+    work.right(&["plan", "examples/press/plan.named", "examples/press/run.named"], &run)?;
+    work.right(&["plan", "examples/press/plan.txt", "examples/press/run.named"], &run)?;
+    // Known names, and made-up ones.
+    let text = call(work.tree, &["text", "examples/numbering"]).out;
+    same("known names", text.contains("correct: trim = wind error rate -0.5 cap 0.25\n"), true)?;
+    let plan = work.file("bare/plan.txt", work.example("numbering/plan.txt")?)?;
+    let text = call(work.tree, &["text", &plan]).out;
+    same("made-up names", text.contains("0: c2 = wind c1 rate -0.5 cap 0.25\n"), true)?;
+    let text = call(work.tree, &["text", &plan, "examples/numbering/run.txt"]).out;
+    same(
+        "a run",
+        text.starts_with("fill 0\nsensors  s0     s1\n         10      0  times 2\n"),
+        true,
+    )?;
+    let help = call(work.tree, &["help"]);
+    for verb in ["run", "check", "plan", "text", "show", "picture", "histories", "library"] {
+        let own = |line: &&str| line.starts_with(&format!("  {verb}"));
+        let lines: Vec<&str> = help.out.lines().filter(own).collect();
+        same(&format!("usage of {verb}"), (help.status, lines.len()), (0, 1))?;
+        work.right(&[verb, "--help"], &format!("{}\n", lines[0]))?;
+        work.right(&["help", verb], &format!("{}\n", lines[0]))?;
+    }
+    Ok(())
 }
 
-/// A repository of three crates with an rt of its own, which proves nothing and prints much: what is
-/// shown on first use.
-fn first_use(work: &Path, view: &Path) -> Result<(), String> {
-    let root = work.join("tree");
-    let _ = fs::remove_dir_all(&root);
-    file(
-        &root.join("crates.txt"),
-        b"# crates\nplan:\nlines: plan\nother: plan\nrun: plan lines io\nplan_check: plan\n",
+fn missing_things(work: &Work) -> Result<(), String> {
+    work.stopped(&["run", "nowhere"], &["nowhere", "folder"])?;
+    work.stopped(&["nowhere"], &["nowhere", "verb", "help"])?;
+    work.stopped(&["chekc", "examples/k"], &["chekc", "help"])?;
+    work.stopped(&["examples/k", "show"], &["comes before its verb", "help"])?;
+    work.stopped(&["FOLDER"], &["neither a verb nor a folder"])?;
+    work.stopped(&["check"], &["check PLAN"])?;
+    work.stopped(&["check", "examples/k", "more"], &["check PLAN"])?;
+    work.stopped(&["picture", "examples/k", "--all"], &["picture [FOLDER] [FILE]"])?;
+    work.stopped(&["check", "nowhere/plan.txt"], &["nowhere/plan.txt", "there is no file"])?;
+    work.stopped(&["show", "nowhere"], &["nowhere"])?;
+    work.stopped(&["picture", "examples/k", "nowhere/x.svg"], &["nowhere/x.svg"])?;
+    work.stopped(&["plan", "examples/k"], &["examples/k", "folder"])?;
+    work.stopped(&["histories", "nowhere"], &["nowhere"])?;
+    work.stopped(&["plan", "examples/k/plan.txt"], &["is a plan text already", "text"])?;
+    work.stopped(&["text", "examples/k/plan.named"], &["is a named plan already", "plan"])?;
+    let other = work.file("other/press.plan", work.example("press/plan.named")?)?;
+    work.stopped(&["check", &other], &["looks like a named plan", "*.named"])?;
+    work.file("lacking/plan.txt", work.example("k/plan.txt")?)?;
+    work.stopped(&["run", &work.at("lacking")], &["run.txt", "run.named", "put one there"])?;
+    work.file("empty/readme", "")?;
+    work.stopped(&["show", &work.at("empty")], &["plan.txt", "plan.named", "put one there"])?;
+    work.file("odd/plan.txt/x", "")?;
+    work.file("odd/run.txt", "")?;
+    work.stopped(&["run", &work.at("odd")], &["plan.txt", "folder"])
+}
+
+fn refused_texts(work: &Work) -> Result<(), String> {
+    let damaged = work.example("k/plan.txt")?.replacen("  11   1   1   0", "  11   1   1   2", 1);
+    let plan = work.file("plan/plan.txt", damaged)?;
+    work.file("plan/run.txt", work.example("k/run.txt")?)?;
+    let words = "refusal 5: cell a is 2, the plan has 2 cells (0 to 1)";
+    let output = call(work.tree, &["check", &plan]);
+    let first = output.out.lines().next().map(String::from);
+    let wanted = (1, Some(format!("{plan}:5: {words}")), String::new());
+    same("check", (output.status, first, output.errors), wanted)?;
+    work.refused(&["run", &work.at("plan")], "   5       5\n", words)?;
+    work.refused(&["histories", &plan], "   5       5\n", words)?;
+    for verb in ["text", "show", "picture"] {
+        work.refused(&[verb, &work.at("plan")], "", words)?;
+    }
+    work.file("line/plan.txt", work.example("k/plan.txt")?)?;
+    work.file("line/run.txt", work.example("k/run.txt")?.replacen("   4 255", "   8 255", 1))?;
+    let words = "run.txt:2: refusal 10: mask is 8, with 3 nodes (0 to 2) a mask is 0 to 7";
+    let listing = work.example("k/listing.txt")?;
+    let first = listing.split_inclusive('\n').next().unwrap_or_default();
+    work.refused(&["run", &work.at("line")], &format!("{first}  10       2\n"), words)?;
+    let output = call(work.tree, &["show", &work.at("line")]);
+    let ended = output.out.contains(
+        "1 frame run, 0 faults, every setpoint as without faults, ended by refusal 10 of line 2\n",
+    );
+    same("show", (output.status, output.errors.contains(words), ended), (1, true, true))?;
+    let words = "refusal 11: histories are listed for plans of at most 5 nodes";
+    work.refused(&["histories", "tests/listings/largest/plan.txt"], "  11       0\n", words)
+}
+
+/// Errors of named plans and runs, and refusals with their place in them.
+fn named_files(work: &Work) -> Result<(), String> {
+    let named = work.example("press/plan.named")?;
+    for (from, to, words) in [
+        ("= sum speed cyan_trim", "= sum speed cyam_trim", "plan.named:22: 'cyam_trim': no cell has this name; is 'cyan_trim' meant?"),
+        ("cyan_error rate -0.5 cap 0.25", "cyan_error rate -0.5 cap -0.25", "plan.named:17: '-0.25': refusal 5: cap is -0.25, its sign bit must be 0"),
+        ("nodes 5", "nodes 8", "plan.named:3: '8': refusal 3: nodes is 8, a plan has 1 to 7"),
+        ("nodes 5", "nodes 99999", "plan.named:3: '99999': the number of nodes is a whole number, 1 to 7"),
+        ("nodes 5", "nodes: 5", "plan.named:3: 'nodes': no colon stands behind this word, unless a frame is called so"),
+        ("nodes 5\n", "\n", "plan.named: the nodes are missing; write for example: nodes 3"),
+        ("limit cyan 0 25", "limit cyan 0", "plan.named:26: 'limit': the form is: limit CELL LOW HIGH"),
+        ("limit cyan 0 25", "limit cyan 0 NaN", "plan.named:26: 'NaN': a value is a decimal number as 20, -0.5 or 1e-9, or a pattern: NaN is 0x7ff8000000000000"),
+        ("cell speed\n", "cell speed = 1 b = 2\n", "plan.named:7: 'cell': the form is: cell NAME .. = VALUE"),
+        ("drive:   vote cyan ", "drive:   vote cyan cyan ", "plan.named:32: 'cyan': line 32 has this vote already"),
+        ("correct: cyan_error    = take cyan\n", "", "plan.named:8: 'cyan_error': refusal 6: cell cyan_error is never known for good"),
+    ] {
+        let path = work.file("named/plan.named", named.replacen(from, to, 1))?;
+        work.refused(&["plan", &path], "", words)?;
+        let output = call(work.tree, &["check", &path]);
+        same("check", (output.status, output.out.contains(words), output.errors.as_str()), (1, true, ""))?;
+    }
+    for (run, words) in [
+        ("1 times 2\n1 bad 2 silent\n", "run.named:2: 'silent': refusal 10: fill is 256, silence"),
+        ("fill 300\n# so\n1\n", "run.named:1: '300': refusal 10: fill is 300, a fill is 0 to 255"),
+        ("1\n1 bad 3\n", "run.named:2: '3': the plan has no such node; its nodes are 0 to 2"),
+        ("1 bad 1,2\n", "run.named:1: '1,2': a node is a whole number, 0 to 2"),
+        ("1 2\n", "run.named:1: '2': 2 values in this line, and the plan has 1 sensor"),
+        ("bad 1\n", "run.named:1: 'bad': the sensors' values come first"),
+        (".5\n", "run.named:1: '.5': a value is a decimal number"),
+        ("1 times +5\n", "run.named:1: '+5': how many frames are alike is a whole number"),
+        ("1 times 100000\n1\n", "run.named:2: '1': a run has at most 100,000 frames"),
+    ] {
+        let path = work.file("named/run.named", run)?;
+        work.refused(&["plan", "examples/k/plan.named", &path], "", words)?;
+    }
+    // Windows line ends, a byte order mark, no line feed at the end.
+    let odd = format!("\u{feff}{}", named.trim_end().replace('\n', "\r\n"));
+    let path = work.file("named/odd.named", odd)?;
+    work.right(&["plan", &path], &work.example("press/plan.txt")?)
+}
+
+/// Folders with named files alone, and with named files that are not those of the texts.
+fn named_folders(work: &Work) -> Result<(), String> {
+    for name in ["plan.named", "run.named"] {
+        work.file(&format!("by name/{name}"), work.example(&format!("press/{name}"))?)?;
+    }
+    work.right(&["run", &work.at("by name")], &work.example("press/listing.txt")?)?;
+    work.right(&["show", &work.at("by name")], &work.example("press/show.txt")?)?;
+    for name in ["plan.txt", "run.txt", "plan.named"] {
+        work.file(&format!("by name/{name}"), work.example(&format!("press/{name}"))?)?;
+    }
+    work.file("by name/run.named", work.example("press/run.named")?.replacen("bad 2", "bad 1", 1))?;
+    for (verb, wanted) in [("run", "press/listing.txt"), ("show", "press/show.txt")] {
+        let output = call(work.tree, &[verb, &work.at("by name")]);
+        let said =
+            output.errors.contains("run.named does not give run.txt, which is used; to use it: ");
+        same(verb, (output.status, output.out, said), (0, work.example(wanted)?, true))?;
+    }
+    work.file(
+        "by name/plan.named",
+        work.example("press/plan.named")?.replacen("nodes 5", "nodes 4", 1),
     )?;
-    file(&root.join("crates/plan/src/lib.rt"), b"")?;
-    file(&root.join("examples/k/plan.txt"), b"x")?;
-    file(&root.join("examples/k/run.txt"), b"")?;
-    let rt = b"#!/bin/sh\nfor name in plan lines run; do echo \"fn $name::f: proved\"; echo \"rt: $name proved (1 s)\"; done\necho noise >&2\n\
-        mkdir -p target/bin\nprintf '#!/bin/sh\\necho \"   2       1\"\\n' >target/bin/run\nchmod +x target/bin/run\n";
-    let rt_path = file(&root.join("bin/rt"), rt)?;
+    for verb in ["run", "check", "histories"] {
+        let output = call(work.tree, &[verb, &work.at("by name")]);
+        let said =
+            output.errors.contains("plan.named does not give plan.txt, which is used; to use it: ");
+        same(verb, (output.status, said), (0, true))?;
+    }
+    Ok(())
+}
+
+/// Output that cannot be written is told; a closed pipe is not; a link to the script works.
+fn streams(work: &Work) -> Result<(), String> {
+    let full =
+        || fs::File::options().write(true).open("/dev/full").map_err(|error| error.to_string());
+    let output = outcome(command(work.tree, &["run"]).stdout(full()?));
+    let said = output.errors.contains("the output cannot be written");
+    same("a full disk", (output.status, said), (2, true))?;
+    let mut to_full = command(work.tree, &["check", "nowhere"]);
+    let status = to_full
+        .stdout(Stdio::null())
+        .stderr(full()?)
+        .status()
+        .map_err(|error| error.to_string())?;
+    same("errors to a full disk", status.code(), Some(2))?;
+    let mut child = command(work.tree, &["run"])
+        .stdout(Stdio::piped())
+        .spawn()
+        .map_err(|error| error.to_string())?;
+    drop(child.stdout.take());
+    let status = child.wait().map_err(|error| error.to_string())?;
+    same("a closed pipe", status.code(), Some(0))?;
+    let link = work.folder.join("link");
+    symlink(work.tree.root.join("ragbasalt"), &link).map_err(|error| error.to_string())?;
+    let output = outcome(Command::new(&link).current_dir(&work.folder));
+    same("a link", (output.status, output.out), (0, work.example("k/listing.txt")?))
+}
+
+/// A repository of five crates with an rt of its own, which proves nothing and prints much: what is
+/// shown on first use.
+fn first_use(work: &Work) -> Result<(), String> {
+    let view = work.tree.root.join("target/view/ragbasalt");
+    work.file(
+        "tree/crates.txt",
+        "# crates\nplan:\nlines: plan\nother: plan\nrun: plan lines io\nplan_check: plan\n",
+    )?;
+    work.file("tree/crates/plan/src/lib.rt", "")?;
+    work.file("tree/examples/k/plan.txt", "x")?;
+    work.file("tree/examples/k/run.txt", "")?;
+    let rt = "#!/bin/sh\nfor name in plan lines run plan_check; do echo \"fn $name::f: proved\"; echo \"rt: $name proved (1 s)\"; done\n\
+        echo noise >&2\nmkdir -p target/bin\nfor name in run plan_check; do\n\
+        printf '#!/bin/sh\\necho \"   1       0\"\\n' >target/bin/$name; chmod +x target/bin/$name; done\n";
+    let rt_path = work.file("tree/bin/rt", rt)?;
     fs::set_permissions(&rt_path, fs::Permissions::from_mode(0o755))
         .map_err(|error| error.to_string())?;
+    let root = work.folder.join("tree");
     let path =
         format!("{}:{}", root.join("bin").display(), std::env::var("PATH").unwrap_or_default());
-    let first = outcome(Command::new(view).arg(&root).env("PATH", &path));
+    let call = || outcome(Command::new(&view).arg(&root).env("PATH", &path));
+    let first = call();
     let wanted =
         "ragbasalt: proving and building the program; from nothing this takes some minutes\n\
-        ragbasalt:  1 of 3 plan proved (1 s), log target/prove.log\n\
-        ragbasalt:  2 of 3 lines proved (1 s), log target/prove.log\n\
-        ragbasalt:  3 of 3 run proved (1 s), log target/prove.log\n";
-    same("first use", first.errors.starts_with(wanted), true)
-        .map_err(|report| report + &first.errors)?;
-    same("first use", (first.status, first.out.as_str()), (1, "   2       1\n"))?;
+        ragbasalt:  1 of 4 plan proved (1 s), log target/prove.log\n\
+        ragbasalt:  2 of 4 lines proved (1 s), log target/prove.log\n\
+        ragbasalt:  3 of 4 run proved (1 s), log target/prove.log\n\
+        ragbasalt:  4 of 4 plan_check proved (1 s), log target/prove.log\n";
+    let words = "plan.txt: refusal 1: the text has 1 bytes";
+    let shown = first.errors.starts_with(wanted)
+        && first.errors.contains(words)
+        && !first.errors.contains("noise");
+    same("first use", shown, true).map_err(|report| report + &first.errors)?;
+    same("first use", (first.status, first.out.as_str()), (1, "   1       0\n"))?;
     let log =
         fs::read_to_string(root.join("target/prove.log")).map_err(|error| error.to_string())?;
     same("the log", log.contains("fn plan::f: proved\n") && log.contains("noise\n"), true)?;
-    let again = outcome(Command::new(view).arg(&root).env("PATH", &path));
-    same("second use", again.errors.contains("proving"), false)?;
-    let failing = b"#!/bin/sh\necho 'rt: plan proved (1 s)'\necho 'rt: lines NOT PROVED (exit 1, 2 s)'\nexit 1\n";
-    file(&root.join("bin/rt"), failing)?;
+    same("second use", call().errors.contains("proving"), false)?;
+    work.file("tree/bin/rt", "#!/bin/sh\necho 'rt: plan proved (1 s)'\necho 'rt: lines NOT PROVED (exit 1, 2 s)'\nexit 1\n")?;
     fs::remove_file(root.join("target/bin/run")).map_err(|error| error.to_string())?;
-    let failed = outcome(Command::new(view).arg(&root).env("PATH", &path));
+    let failed = call();
     let last = failed.errors.lines().last().unwrap_or_default();
     same(
         "a crate that is not proved",
@@ -93,178 +330,20 @@ fn first_use(work: &Path, view: &Path) -> Result<(), String> {
 }
 
 pub fn all(tree: &Tree) -> Tested {
-    let work = tree.root.join("target/view/work");
-    let _ = fs::remove_dir_all(&work);
-    let at = |name: &str| work.join(name);
-    let example = |name: &str| {
-        fs::read_to_string(tree.root.join("examples").join(name)).map_err(|error| error.to_string())
-    };
-    // Everything right.
-    for arguments in [&["run", "examples/k"][..], &["examples/k"], &["run"], &[]] {
-        let output = call(tree, arguments);
-        same(
-            "the listing",
-            (output.status, output.out, output.errors),
-            (0, example("k/listing.txt")?, String::new()),
-        )?;
-    }
-    let right = [
-        (
-            &["check", "examples/press/plan.txt"][..],
-            String::from("accepted: 5 nodes, 2 frames, 13 cells, R = 3\n"),
-        ),
-        (
-            &["check", "examples/press/plan.named"],
-            String::from("accepted: 5 nodes, 2 frames, 13 cells, R = 3\n"),
-        ),
-        (
-            &["check", "examples/numbering"],
-            String::from("accepted: 2 nodes, 2 frames, 4 cells, R = 3\n"),
-        ),
-        (&["histories", "examples/k/plan.txt"], example("k/histories.txt")?),
-        (&["histories", "examples/numbering"], example("numbering/histories.txt")?),
-        (&["histories"], example("k/histories.txt")?),
-        (&["plan", "examples/press/plan.named"], example("press/plan.txt")?),
-        (
-            &["plan", "examples/press/plan.named", "examples/press/run.named"],
-            example("press/run.txt")?,
-        ),
-    ];
-    for (arguments, wanted) in right {
-        let output = call(tree, arguments);
-        same(
-            &format!("{arguments:?}"),
-            (output.status, output.out, output.errors),
-            (0, wanted, String::new()),
-        )?;
-    }
-    let help = call(tree, &["help"]);
-    for verb in ["run", "check", "plan", "text", "show", "picture", "histories", "library"] {
-        let lines = help
-            .out
-            .lines()
-            .filter(|line| line.trim_start().starts_with(&format!("{verb} ")))
-            .count();
-        same(&format!("usage of {verb}"), (help.status, lines), (0, 1))?;
-    }
-    // Missing things.
-    stopped(tree, &["run", "nowhere"], &["nowhere", "folder"])?;
-    stopped(tree, &["nowhere"], &["nowhere", "verb", "help"])?;
-    stopped(tree, &["chekc", "examples/k"], &["chekc", "help"])?;
-    stopped(tree, &["check"], &["check PLAN"])?;
-    stopped(tree, &["check", "nowhere/plan.txt"], &["nowhere/plan.txt", "there is no file"])?;
-    stopped(tree, &["show", "nowhere"], &["nowhere"])?;
-    stopped(tree, &["picture", "examples/k", "nowhere/x.svg"], &["nowhere/x.svg"])?;
-    stopped(tree, &["plan", "examples/k"], &["examples/k", "folder"])?;
-    stopped(tree, &["histories", "nowhere"], &["nowhere"])?;
-    stopped(tree, &["plan", "examples/k/plan.txt"], &["is a plan text already", "text"])?;
-    stopped(tree, &["text", "examples/k/plan.named"], &["is a named plan", "plan"])?;
-    file(&at("lacking/plan.txt"), example("k/plan.txt")?.as_bytes())?;
-    stopped(tree, &["run", &at("lacking").display().to_string()], &["run.txt"])?;
-    file(&at("empty/readme"), b"")?;
-    stopped(tree, &["show", &at("empty").display().to_string()], &["plan.txt"])?;
-    file(&at("odd/plan.txt/x"), b"")?;
-    file(&at("odd/run.txt"), b"")?;
-    stopped(tree, &["run", &at("odd").display().to_string()], &["plan.txt", "folder"])?;
-    // Refused plans and run lines: what the program printed, then the words, status 1.
-    let damaged = example("k/plan.txt")?.replacen("  11   1   1   0", "  11   1   1   2", 1);
-    let plan = file(&at("plan/plan.txt"), damaged.as_bytes())?;
-    file(&at("plan/run.txt"), example("k/run.txt")?.as_bytes())?;
-    let words = "refusal 5: cell a is 2, the plan has 2 cells (0 to 1)";
-    let output = call(tree, &["check", &plan]);
-    same(
-        "check",
-        (output.status, output.out.lines().next().map(String::from), output.errors),
-        (1, Some(format!("{plan}:5: {words}")), String::new()),
-    )?;
-    let output = call(tree, &["run", &at("plan").display().to_string()]);
-    same(
-        "run",
-        (output.status, output.out.as_str(), output.errors.contains(words)),
-        (1, "   5       5\n", true),
-    )?;
-    for verb in ["text", "histories", "show", "picture"] {
-        let place = if verb == "text" { plan.clone() } else { at("plan").display().to_string() };
-        let output = call(tree, &[verb, &place]);
-        same(verb, (output.status, output.errors.contains(words)), (1, true))?;
-    }
-    file(&at("line/plan.txt"), example("k/plan.txt")?.as_bytes())?;
-    file(
-        &at("line/run.txt"),
-        example("k/run.txt")?.replacen("   4 255", "   8 255", 1).as_bytes(),
-    )?;
-    let words = "run.txt:2: refusal 10: mask is 8, with 3 nodes (0 to 2) a mask is 0 to 7";
-    let output = call(tree, &["run", &at("line").display().to_string()]);
-    same(
-        "run",
-        (output.status, output.out.lines().last(), output.errors.contains(words)),
-        (1, Some("  10       2"), true),
-    )?;
-    let output = call(tree, &["show", &at("line").display().to_string()]);
-    same(
-        "show",
-        (output.status, output.errors.contains(words), output.out.contains("1 frame run")),
-        (1, true, true),
-    )?;
-    let output = call(tree, &["histories", "tests/listings/largest/plan.txt"]);
-    same(
-        "histories",
-        (output.status, output.out.as_str(), output.errors.contains("refusal 11: ")),
-        (1, "  11       0\n", true),
-    )?;
-    // Named files: errors of their own, and refusals with their place.
-    let named = example("press/plan.named")?;
-    for (from, to, words) in [
-        (
-            "= sum speed cyan_trim",
-            "= sum speed cyam_trim",
-            "plan.named:22: 'cyam_trim': no cell has this name; is 'cyan_trim' meant?",
-        ),
-        (
-            "cyan_error rate -0.5 cap 0.25",
-            "cyan_error rate -0.5 cap -0.25",
-            "plan.named:17: '-0.25': refusal 5: cap is -0.25, its sign bit must be 0",
-        ),
-        ("nodes 5", "nodes 8", "plan.named:3: '8': refusal 3: nodes is 8, a plan has 1 to 7"),
-        (
-            "limit cyan 0 25",
-            "limit cyan 0",
-            "plan.named:26: 'limit': the form is: limit A LOW HIGH",
-        ),
-        ("nodes 5\n", "\n", "plan.named: the nodes are missing; write for example: nodes 3"),
-        (
-            "correct: cyan_error    = take cyan\n",
-            "",
-            "plan.named: refusal 6: cell cyan_error is never known for good",
-        ),
+    let folder = tree.root.join("target/view/work");
+    let _ = fs::remove_dir_all(&folder);
+    let work = &Work { tree, folder };
+    for part in [
+        everything_right,
+        missing_things,
+        refused_texts,
+        named_files,
+        named_folders,
+        streams,
+        first_use,
     ] {
-        let path = file(&at("named/plan.named"), named.replacen(from, to, 1).as_bytes())?;
-        let output = call(tree, &["plan", &path]);
-        let right = output.errors.contains(words);
-        same(words, (output.status, output.out.as_str(), right), (1, "", true))
-            .map_err(|report| report + &output.errors)?;
+        part(work)?;
     }
-    let run = file(&at("named/run.named"), b"1 times 2\n1 bad 2 silent\n")?;
-    let output = call(tree, &["plan", "examples/k/plan.named", &run]);
-    same(
-        "silence",
-        (
-            output.status,
-            output.out.as_str(),
-            output.errors.contains("run.named:2: refusal 10: fill is 256, silence"),
-        ),
-        (1, "", true),
-    )?;
-    // A folder with named files alone.
-    for name in ["plan.named", "run.named"] {
-        file(&at("by-name").join(name), example(&format!("press/{name}"))?.as_bytes())?;
-    }
-    let folder = at("by-name").display().to_string();
-    let output = call(tree, &["run", &folder]);
-    same("named files alone", (output.status, output.out), (0, example("press/listing.txt")?))?;
-    let output = call(tree, &["show", &folder]);
-    same("named files alone", (output.status, output.out), (0, example("press/show.txt")?))?;
-    first_use(&work, &tree.root.join("target/view/ragbasalt"))?;
-    let _ = fs::remove_dir_all(&work);
+    let _ = fs::remove_dir_all(&work.folder);
     Ok(String::from("streams, words and exit status of every verb; what is shown on first use"))
 }

@@ -173,6 +173,7 @@ pub fn table(tree: &Tree) -> Tested {
     let other = Cause {
         refusal: cause::Refusal { number: 4, line: 8 },
         column: None,
+        cells: Vec::new(),
         words: String::from("other"),
     };
     let bare = cause::report("plan.txt", refused, Some(&other), Some(b"a line\n"));
