@@ -95,6 +95,7 @@ pub fn faults(states: &[Vec<State>], nodes: usize) -> Vec<Knock> {
 }
 
 /// A run with everything that is shown of it.
+#[derive(Clone)]
 pub struct Run {
     pub header: Row,
     pub period: usize,

@@ -230,17 +230,6 @@ impl<'a> Reader<'a> {
         let nodes = small(places[1].0, &places[1].1, "the number of nodes", "1 to 7")?;
         let lists =
             [&self.names.frames, &self.names.cells, &self.names.sensors, &self.names.actuators];
-        for (list, ((line, word), (_, what, _))) in
-            lists.iter().zip(places[2..].iter().zip(&told[1..]))
-        {
-            if list.len() > 9999 {
-                return fault(
-                    *line,
-                    word,
-                    format!("{} {what} have no room in a plan text", list.len()),
-                );
-            }
-        }
         let [f, c, s, a] = lists.map(|names| names.len() as u64);
         let source = places.try_into().expect("six places");
         Ok(([text::HEADER, nodes, f, c, s, a], source))

@@ -59,6 +59,15 @@ fn newest(folder: &Path) -> Option<SystemTime> {
     times.into_iter().max()
 }
 
+/// A name for a folder that no other call has, of this process or another.
+fn scratch() -> PathBuf {
+    static NEXT: AtomicUsize = AtomicUsize::new(0);
+    let number = NEXT.fetch_add(1, Ordering::Relaxed);
+    let time = SystemTime::now().duration_since(SystemTime::UNIX_EPOCH).unwrap_or_default();
+    let name = format!("ragbasalt-{}-{}-{number}", std::process::id(), time.as_nanos());
+    std::env::temp_dir().join(name)
+}
+
 /// What a line of rt says of a crate.
 fn crate_line(line: &str) -> Option<(&str, &str)> {
     let (name, what) = line.strip_prefix("rt: ")?.split_once(' ')?;
@@ -208,10 +217,7 @@ impl Programs {
 
     /// What a program prints for these files, which are written to a folder of their own.
     pub fn output_on(&self, name: &str, files: &[(&str, &[u8])]) -> Found<Vec<u8>> {
-        static NEXT: AtomicUsize = AtomicUsize::new(0);
-        let number = NEXT.fetch_add(1, Ordering::Relaxed);
-        let folder =
-            std::env::temp_dir().join(format!("ragbasalt-{}-{number}", std::process::id()));
+        let folder = scratch();
         let written = fs::create_dir(&folder).and_then(|()| {
             files.iter().try_for_each(|(file, bytes)| fs::write(folder.join(file), bytes))
         });

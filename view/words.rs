@@ -20,6 +20,9 @@ impl Fault {
     }
 }
 
+/// The largest number that a column of width 4 shows.
+const MOST: usize = 9999;
+
 pub fn fault<T>(line: usize, word: &str, says: impl Into<String>) -> Result<T, Fault> {
     Err(Fault { line, word: String::from(word), says: says.into() })
 }
@@ -53,7 +56,7 @@ pub fn is_number(word: &str) -> bool {
 /// A whole number that has room in a column of width 4; `limits` tells what the plan allows.
 pub fn small(line: usize, word: &str, what: &str, limits: &str) -> Result<u64, Fault> {
     match word.parse::<u64>() {
-        Ok(number) if is_number(word) && number <= 9999 => Ok(number),
+        Ok(number) if is_number(word) && number <= MOST as u64 => Ok(number),
         _ => fault(line, word, format!("{what} is a whole number, {limits}")),
     }
 }
@@ -77,6 +80,9 @@ pub fn declare(
         }
         if list.iter().any(|name| name == word) {
             return fault(line, word, format!("another {what} has this name already"));
+        }
+        if list.len() == MOST {
+            return fault(line, word, format!("a plan has not so many {what}s"));
         }
         list.push(String::from(word));
     }

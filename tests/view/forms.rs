@@ -1,5 +1,7 @@
 //! The named forms both ways, on the plans and runs that the reference's generator makes.
 
+use std::fs;
+
 use super::cases::case;
 use super::plan;
 use super::random::{Random, Values};
@@ -41,6 +43,19 @@ pub fn values() -> Tested {
         ("00.5", 0x3FE0 << 48),
     ] {
         same(word, pattern::read(word), Ok(bits))?;
+    }
+    for (value, word) in [
+        (1e16, "1e16"),
+        (9999999999999998.0, "9999999999999998"),
+        (-1e15, "-1000000000000000"),
+        (1e-5, "0.00001"),
+        (9.5e-6, "9.5e-6"),
+        (0.1, "0.1"),
+        (20.0, "20"),
+        (f64::MAX, "1.7976931348623157e308"),
+        (5e-324, "5e-324"),
+    ] {
+        same("a decimal", pattern::decimal(value).as_str(), word)?;
     }
     for word in [
         "",
@@ -209,6 +224,10 @@ pub fn runs(_: &Tree) -> Tested {
             .map_err(|fault| fault.report("run.named") + &file)?;
         same("the run text", runs::text(&back.lines) == run, true)
             .map_err(|report| report + &file)?;
+        let file = exchanged(&file);
+        let back = runs::read(&file, &header, &names).map_err(|fault| fault.report("run.named"))?;
+        same("the run text of exchanged sensors", runs::text(&back.lines) == run, true)
+            .map_err(|report| report + &file)?;
         counts[0] += 1;
         counts[1] += listing.lines as u64;
         Ok(())
@@ -221,6 +240,42 @@ pub fn runs(_: &Tree) -> Tested {
         }
         false => Err(format!("only {count} run texts were accepted")),
     }
+}
+
+/// A named run with the first two sensors exchanged in their line and in every frame.
+fn exchanged(file: &str) -> String {
+    let mut sensors = 0;
+    let line = |line: &str| {
+        let mut words: Vec<&str> = line.split_whitespace().collect();
+        let at = usize::from(words.first() == Some(&"sensors"));
+        if at == 1 {
+            sensors = words.len() - 1;
+        }
+        if sensors > 1 {
+            words.swap(at, at + 1);
+        }
+        words.join(" ") + "\n"
+    };
+    file.lines().map(line).collect()
+}
+
+/// The plan and the run that docs/NAMED.md shows: the plan of examples/numbering, and a run of it.
+pub fn page(tree: &Tree) -> Tested {
+    let read = |name: &str| {
+        fs::read_to_string(tree.root.join(name)).map_err(|error| format!("{name}: {error}"))
+    };
+    let page = read("docs/NAMED.md")?;
+    let blocks: Vec<&str> = page.split("```\n").skip(1).step_by(2).collect();
+    let [plan, _, _, run] = blocks[..] else {
+        return Err(format!("docs/NAMED.md has {} blocks, not 4", blocks.len()));
+    };
+    let plan = named::read(plan).map_err(|fault| fault.report("docs/NAMED.md"))?;
+    let wanted = read("examples/numbering/plan.txt")?;
+    same("the plan", String::from_utf8_lossy(&text::text(&plan.rows)).into_owned(), wanted)?;
+    let run = runs::read(run, &plan.rows[0], &plan.names)
+        .map_err(|fault| fault.report("docs/NAMED.md"))?;
+    same("masks", run.lines.iter().map(|line| line[0]).collect(), vec![0, 0, 0, 0, 2, 0])?;
+    Ok(String::from("the plan and the run that it shows are read"))
 }
 
 /// Puts a word in, takes one out, exchanges two, or writes something else for one.

@@ -109,10 +109,11 @@ fn main() -> ExitCode {
     let root = std::env::args().nth(1).unwrap_or_else(|| String::from("."));
     let root = Path::new(&root).canonicalize().expect("the repository's folder");
     let tree = &Tree { programs: Programs::new(&root), root };
-    let tests: [(&str, fn(&Tree) -> Tested); 9] = [
+    let tests: [(&str, fn(&Tree) -> Tested); 10] = [
         ("values", |_| forms::values()),
         ("plans by name", forms::plans),
         ("runs by name", forms::runs),
+        ("docs/NAMED.md", forms::page),
         ("damaged named files", forms::damaged),
         ("words of refusals", words::table),
         ("refusals", refusals::all),

@@ -1,33 +1,68 @@
-//! `picture`: well-formed XML without scripts, as many marks as the run has faults, and below 2 MB.
+//! `picture`: well-formed XML without scripts; as many marks as the run has faults; curves, marks and
+//! numbers of axes read back from it as a person does, and held to the listing; below 2 MB.
 
+use std::collections::BTreeSet;
 use std::fs;
 
 use super::cases::case;
 use super::random::Random;
-use super::view::listing::Run;
+use super::view::listing::{Run, State};
 use super::view::names::Names;
 use super::view::{picture, runs};
 use super::{each, same, tables, Tested, Tree};
 
-/// Tags closed in order, attributes quoted and each once, no bare `<`, `>` or `&` in text, one root.
-fn well_formed(svg: &str) -> Result<(), String> {
+/// Where the panels begin and how wide they are, and how many columns share a long run's frames.
+const LEFT: f64 = 96.0;
+const WIDTH: f64 = 840.0;
+const COLUMNS: usize = 840;
+
+/// An element: its name, its attributes, the text that follows it.
+struct Element<'a> {
+    name: &'a str,
+    attributes: Vec<(&'a str, &'a str)>,
+    text: &'a str,
+}
+
+impl Element<'_> {
+    fn get(&self, name: &str) -> &str {
+        self.attributes.iter().find(|(own, _)| *own == name).map_or("", |(_, value)| value)
+    }
+
+    fn number(&self, name: &str) -> f64 {
+        self.get(name).parse().unwrap_or(f64::NAN)
+    }
+
+    fn is(&self, name: &str, class: &str) -> bool {
+        self.name == name && self.get("class") == class
+    }
+}
+
+/// The elements of a document: tags closed in order, attributes quoted and each once, no bare `<`,
+/// `>` or `&` in text, one root.
+fn elements(svg: &str) -> Result<Vec<Element<'_>>, String> {
     let fail =
         |what: &str, at: &str| Err(format!("{what}: {}", at.chars().take(80).collect::<String>()));
-    let mut open: Vec<&str> = Vec::new();
-    let (mut rest, mut roots) = (svg, 0);
+    let (mut open, mut found, mut roots): (Vec<&str>, Vec<Element>, usize) =
+        (Vec::new(), Vec::new(), 0);
+    let mut rest = svg;
     while !rest.is_empty() {
         let Some(tag) = rest.strip_prefix('<') else {
-            let end = rest.find('<').unwrap_or(rest.len());
-            let (text, after) = rest.split_at(end);
+            let (text, after) = rest.split_at(rest.find('<').unwrap_or(rest.len()));
             entities(text)?;
             if text.contains('>') || (open.is_empty() && !text.trim().is_empty()) {
                 return fail("text at no place", rest);
             }
+            found
+                .last_mut()
+                .into_iter()
+                .filter(|last| last.text.is_empty())
+                .for_each(|last| last.text = text);
             rest = after;
             continue;
         };
-        let Some(end) = tag.find('>') else { return fail("a tag without end", rest) };
-        let (inside, after) = (&tag[..end], &tag[end + 1..]);
+        let Some((inside, after)) = tag.split_once('>') else {
+            return fail("a tag without end", rest);
+        };
         rest = after;
         if let Some(name) = inside.strip_prefix('/') {
             if open.pop() != Some(name) {
@@ -41,20 +76,20 @@ fn well_formed(svg: &str) -> Result<(), String> {
         if name.is_empty() || !name.bytes().all(|byte| byte.is_ascii_alphanumeric()) {
             return fail("a tag's name", inside);
         }
-        attribute_list(attributes)?;
+        found.push(Element { name, attributes: attribute_list(attributes)?, text: "" });
         roots += usize::from(open.is_empty());
         if !empty {
             open.push(name);
         }
     }
     match (open.is_empty(), roots) {
-        (true, 1) => Ok(()),
+        (true, 1) => Ok(found),
         _ => Err(format!("{} tags left open, {roots} roots", open.len())),
     }
 }
 
-fn attribute_list(mut rest: &str) -> Result<(), String> {
-    let mut names = Vec::new();
+fn attribute_list(mut rest: &str) -> Result<Vec<(&str, &str)>, String> {
+    let mut list: Vec<(&str, &str)> = Vec::new();
     while !rest.is_empty() {
         let parts =
             rest.split_once("=\"").and_then(|(name, rest)| Some((name, rest.split_once('"')?)));
@@ -63,20 +98,22 @@ fn attribute_list(mut rest: &str) -> Result<(), String> {
         };
         let right = !name.is_empty()
             && name.bytes().all(|byte| byte.is_ascii_alphanumeric() || byte == b'-');
-        if !right || names.contains(&name) || value.contains('<') {
+        if !right || list.iter().any(|(own, _)| *own == name) || value.contains('<') {
             return Err(format!("an attribute: {name}=\"{value}\""));
         }
         entities(value)?;
-        names.push(name);
+        list.push((name, value));
         rest = after.strip_prefix(' ').unwrap_or(after);
     }
-    Ok(())
+    Ok(list)
 }
 
 fn entities(text: &str) -> Result<(), String> {
     let known = ["amp;", "lt;", "gt;", "quot;"];
-    let parts = text.split('&').skip(1);
-    match parts.into_iter().find(|part| !known.iter().any(|name| part.starts_with(name))) {
+    if let Some(letter) = text.chars().find(|letter| letter.is_control() && *letter != '\n') {
+        return Err(format!("a letter that no XML has: {letter:?}"));
+    }
+    match text.split('&').skip(1).find(|part| !known.iter().any(|name| part.starts_with(name))) {
         Some(part) => Err(format!("a bare & before {part}")),
         None => Ok(()),
     }
@@ -88,48 +125,327 @@ fn knocks(masks: &[u64]) -> u64 {
     masks.iter().zip(before).map(|(mask, before)| u64::from((mask & !before).count_ones())).sum()
 }
 
-/// Marks of bad nodes, and the faults that they stand for.
-fn marks(svg: &str) -> (u64, u64) {
-    let marks: Vec<u64> = svg
-        .split("<rect class=\"bad\" data-faults=\"")
-        .skip(1)
-        .map(|rest| rest.split('"').next().and_then(|count| count.parse().ok()).unwrap_or(0))
-        .collect();
-    (marks.len() as u64, marks.iter().sum())
+/// How many columns a run has, and the frames of one.
+fn columns(run: &Run) -> usize {
+    run.frames.len().min(COLUMNS)
 }
 
-fn check(run: &Run, svg: &str) -> Result<u64, String> {
-    well_formed(svg)?;
-    let faults = knocks(&run.masks);
-    let (count, stood) = marks(svg);
-    same("faults in the marks", stood, faults)?;
-    if run.frames.len() <= 840 {
-        same("marks", count, faults)?;
+fn frames_of(run: &Run, column: usize) -> std::ops::Range<usize> {
+    let edge = |column: usize| column * run.frames.len() / columns(run);
+    edge(column)..edge(column + 1)
+}
+
+/// The column that a place lies in.
+fn column_at(run: &Run, x: f64) -> usize {
+    ((x - LEFT) / WIDTH * columns(run) as f64) as usize
+}
+
+/// The columns under some stretches from x to x; a thin one still covers one.
+fn covered(run: &Run, stretches: impl Iterator<Item = (f64, f64)>) -> BTreeSet<usize> {
+    let half = WIDTH / columns(run) as f64 / 2.0;
+    let columns = |(from, to): (f64, f64)| {
+        let first = column_at(run, from + half);
+        first..=column_at(run, to - half).max(first)
+    };
+    stretches.flat_map(columns).collect()
+}
+
+fn wanted(run: &Run, test: impl Fn(usize) -> bool) -> BTreeSet<usize> {
+    (0..columns(run)).filter(|&column| frames_of(run, column).any(&test)).collect()
+}
+
+/// The rectangles of a class within a panel.
+fn rects<'a>(
+    all: &'a [Element<'a>],
+    class: &'a str,
+    rows: (f64, f64),
+) -> impl Iterator<Item = (f64, f64)> + 'a {
+    let inside = move |element: &&Element| (rows.0..rows.1).contains(&element.number("y"));
+    let rects = all.iter().filter(move |element| element.is("rect", class)).filter(inside);
+    rects.map(|rect| (rect.number("x"), rect.number("x") + rect.number("width")))
+}
+
+/// A path of `M x y`, `V y`, `H x` and `Z`: its strokes from left to right or back, with their height.
+fn strokes(d: &str) -> Vec<(f64, f64, f64)> {
+    let (mut x, mut y, mut out) = (0.0, 0.0, Vec::new());
+    let mut rest = d;
+    while let Some(letter) = rest.chars().next() {
+        let end =
+            rest[1..].find(|c: char| c.is_ascii_alphabetic()).map_or(rest.len(), |end| end + 1);
+        let numbers: Vec<f64> =
+            rest[1..end].split(' ').filter_map(|word| word.parse().ok()).collect();
+        match (letter, &numbers[..]) {
+            ('M', [to_x, to_y]) => (x, y) = (*to_x, *to_y),
+            ('V', [to]) => y = *to,
+            ('H', [to]) => {
+                out.push((x, *to, y));
+                x = *to;
+            }
+            _ => {}
+        }
+        rest = &rest[end..];
     }
-    for word in ["<script", "href", "NaN,", "\"NaN", "inf", " on"] {
+    out
+}
+
+/// A panel's axis, read off two of its numbers: a value's height.
+struct Axis {
+    first: (f64, f64),
+    last: (f64, f64),
+    /// Where the panel begins and ends.
+    rows: (f64, f64),
+}
+
+impl Axis {
+    /// The axis with its numbers at the left, in the panel between two heights.
+    fn read(all: &[Element], rows: (f64, f64)) -> Result<Axis, String> {
         let inside =
-            svg.replace("information", "").split("</style>").nth(1).map_or(false, |body| {
-                // Words of names and numbers are text; only tags count.
-                body.split('<').any(|tag| {
-                    tag.split('>').next().is_some_and(|tag| format!("<{tag}").contains(word))
-                })
-            });
-        if inside {
-            return Err(format!("'{word}' stands in a tag"));
+            |element: &&Element| element.is("text", "small right") && element.number("x") < LEFT;
+        let number = |element: &Element| {
+            Some((element.text.parse::<f64>().ok()?, element.number("y") - 4.0))
+        };
+        let numbers = all.iter().filter(inside).filter_map(number);
+        let numbers: Vec<_> =
+            numbers.filter(|(_, y)| *y >= rows.0 - 0.1 && *y <= rows.1 + 0.1).collect();
+        match (numbers.first(), numbers.last()) {
+            (Some(&first), Some(&last)) if first.0 < last.0 => Ok(Axis { first, last, rows }),
+            _ => Err(format!("an axis without two numbers: {numbers:?}")),
         }
     }
-    match svg.len() < 2_000_000 {
-        true => Ok(faults),
-        false => Err(format!("the picture has {} bytes", svg.len())),
+
+    fn y(&self, value: f64) -> f64 {
+        let share = (value / 2.0 - self.first.0 / 2.0) / (self.last.0 / 2.0 - self.first.0 / 2.0);
+        (self.first.1 + share * (self.last.1 - self.first.1)).clamp(self.rows.0, self.rows.1)
+    }
+
+    /// Coordinates have one digit behind the point, and what two of them are apart is stretched
+    /// over the panel.
+    fn slack(&self) -> f64 {
+        0.1 + 0.1 * (self.rows.1 - self.rows.0) / (self.last.1 - self.first.1).abs().max(1.0)
     }
 }
 
-/// 100,000 frames of a plan of the reference's kind: wild values, faults in a tenth of the frames.
+/// A curve drawn at the least and the greatest finite value of each column, with gaps where there
+/// is none.
+fn check_curve(run: &Run, d: &str, axis: &Axis, values: &[f64], what: &str) -> Result<(), String> {
+    let mut drawn = vec![Vec::new(); columns(run)];
+    for (from, to, y) in strokes(d) {
+        let back = to < from;
+        for column in covered(run, std::iter::once((from.min(to), from.max(to)))) {
+            drawn[column].push((back, y));
+        }
+    }
+    for (column, drawn) in drawn.iter().enumerate() {
+        let finite =
+            || values[frames_of(run, column)].iter().copied().filter(|value| value.is_finite());
+        let ends = finite().reduce(f64::max).zip(finite().reduce(f64::min));
+        let exact = run.frames.len() <= COLUMNS;
+        let wanted: Vec<(bool, f64)> = match ends {
+            None => Vec::new(),
+            Some((high, _)) if exact => vec![(false, axis.y(high))],
+            Some((high, low)) => vec![(false, axis.y(high)), (true, axis.y(low))],
+        };
+        let close = |(left, right): (&(bool, f64), &(bool, f64))| {
+            left.0 == right.0 && (left.1 - right.1).abs() <= axis.slack()
+        };
+        if drawn.len() != wanted.len() || !drawn.iter().zip(&wanted).all(close) {
+            return Err(format!("{what}, column {column}: drawn at {drawn:?}, not {wanted:?}"));
+        }
+    }
+    Ok(())
+}
+
+/// A panel: its heading's height tells where it stands.
+fn check_setpoint(
+    run: &Run,
+    all: &[Element],
+    heading: &Element,
+    actuator: usize,
+) -> Result<(), String> {
+    let top = heading.number("y") + 8.0;
+    let rows = (top, top + 92.0);
+    let value = |frame: &super::view::listing::Frame| f64::from_bits(frame.setpoints[actuator]);
+    let own: Vec<f64> = run.frames.iter().map(value).collect();
+    let quiet: Vec<f64> = run.without_faults.iter().map(value).collect();
+    let off = covered(run, rects(all, "off", (top - 4.1, top - 3.9)));
+    same(
+        "marks of setpoints that differ",
+        off,
+        wanted(run, |frame| own[frame].to_bits() != quiet[frame].to_bits()),
+    )?;
+    let count =
+        (0..own.len()).filter(|&frame| own[frame].to_bits() != quiet[frame].to_bits()).count();
+    let note = format!("not as without faults in {count} of {} frames", own.len());
+    let noted = all.iter().any(|element| {
+        element.is("text", "small right")
+            && element.get("y") == heading.get("y")
+            && element.text.replace(',', "") == note
+    });
+    same("a note", noted, count > 0)?;
+    let nan = covered(run, rects(all, "nan", (top - 0.1, top + 0.1)));
+    same("bands of no number", nan, wanted(run, |frame| own[frame].is_nan()))?;
+    // Axes whose numbers do not tell values apart are for nobody to read.
+    let Ok(axis) = Axis::read(all, rows) else { return Ok(()) };
+    let highest = axis.first.0
+        + (axis.first.1 - rows.0) / (axis.first.1 - axis.last.1) * (axis.last.0 - axis.first.0);
+    let lowest = axis.first.0
+        - (rows.1 - axis.first.1) / (axis.first.1 - axis.last.1) * (axis.last.0 - axis.first.0);
+    let (slack, range) = ((highest - lowest) * 0.01, highest - lowest);
+    if !range.is_finite() || range < highest.abs() * 1e-2 {
+        return Ok(());
+    }
+    for (class, values) in [("quiet", &quiet), ("line", &own)] {
+        let own_class = |element: &&Element| {
+            element.name == "path" && element.get("class").split(' ').next() == Some(class)
+        };
+        let inside = |element: &&Element| {
+            strokes(element.get("d"))
+                .first()
+                .is_some_and(|&(_, _, y)| y >= rows.0 - 0.1 && y <= rows.1 + 0.1)
+        };
+        let drawn =
+            all.iter().filter(own_class).find(inside).map_or("", |element| element.get("d"));
+        check_curve(run, drawn, &axis, values, class)?;
+    }
+    // The axis has all that a press without faults gets, what lies near it, and no more.
+    let finite = || quiet.iter().copied().filter(|value| value.is_finite());
+    if let Some((low, high)) = finite().reduce(f64::min).zip(finite().reduce(f64::max)) {
+        let reach = (2.0 * (high - low)).max(high.abs()).max(low.abs());
+        let near = own.iter().copied().filter(|value| (low - reach..=high + reach).contains(value));
+        let (least, most) =
+            near.fold((low, high), |(least, most), value| (least.min(value), most.max(value)));
+        let room = ((most - least) * 0.1).max(most.abs() * 0.1).max(1.0) + slack;
+        let right = lowest <= least + slack
+            && highest >= most - slack
+            && lowest >= least - room
+            && highest <= most + room;
+        if !right {
+            return Err(format!("the axis from {lowest} to {highest} for {least} to {most}"));
+        }
+    }
+    let above = covered(run, rects(all, "beyond", (top - 0.1, top + 0.1)));
+    let below = covered(run, rects(all, "beyond", (top + 87.9, top + 88.1)));
+    for (frame, value) in own.iter().enumerate().filter(|(_, value)| !value.is_nan()) {
+        let column =
+            (0..columns(run)).find(|&column| frames_of(run, column).contains(&frame)).unwrap_or(0);
+        let far = [
+            (above.contains(&column), *value > highest + slack),
+            (below.contains(&column), *value < lowest - slack),
+        ];
+        if far.iter().any(|(marked, beyond)| *beyond && !marked) {
+            return Err(format!("frame {frame}: {value} is beyond the axis and not marked"));
+        }
+    }
+    Ok(())
+}
+
+fn check_nodes(run: &Run, all: &[Element]) -> Result<u64, String> {
+    let (mut stood, mut count) = (0, 0);
+    for node in 0..run.nodes() {
+        let label = format!("node {node}");
+        let label = all.iter().find(|element| element.is("text", "right") && element.text == label);
+        let top = label.ok_or("a node without its name")?.number("y") - 12.0;
+        let bad = covered(run, rects(all, "bad", (top - 0.1, top + 0.1)));
+        same("bad", &bad, &wanted(run, |frame| run.masks[frame] >> node & 1 == 1))?;
+        let begins = format!("M{LEFT} {top}");
+        let paths = all.iter().filter(|element| element.is("path", "recovering"));
+        let own = paths.filter(|element| element.get("d").contains(&format!(" {top}H")));
+        let parts = own.flat_map(|element| {
+            element.get("d").split('M').skip(1).map(|part| strokes(&format!("M{part}"))[0])
+        });
+        let recovering = covered(run, parts.map(|(from, to, _)| (from, to)));
+        let wanted = wanted(run, |frame| matches!(run.states[frame][node], State::Recovering(_)));
+        same(&begins, recovering, wanted)?;
+    }
+    for (index, mark) in all.iter().enumerate().filter(|(_, element)| element.is("rect", "bad")) {
+        let faults: u64 =
+            mark.get("data-faults").parse().map_err(|_| "a mark without its faults")?;
+        let title =
+            all.get(index + 1).filter(|next| next.name == "title").map_or("", |next| next.text);
+        let numbers: Vec<usize> = title
+            .split(|c: char| !c.is_ascii_digit())
+            .filter_map(|word| word.parse().ok())
+            .collect();
+        let (node, begin, end) = match (faults, &numbers[..]) {
+            (1, [node, frame]) => (*node, *frame, *frame),
+            (1, [node, begin, end]) => (*node, *begin, *end),
+            (_, [node, told, begin, end]) if *told as u64 == faults => (*node, *begin, *end),
+            _ => return Err(format!("a mark's title: {title}")),
+        };
+        let masks: Vec<u64> = run.masks[begin..=end].iter().map(|mask| mask >> node & 1).collect();
+        same(title, knocks(&masks), faults)?;
+        same(title, (masks[0], masks[masks.len() - 1]), (1, 1))?;
+        stood += faults;
+        count += 1;
+    }
+    same("faults in the marks", stood, knocks(&run.masks))?;
+    if run.frames.len() <= COLUMNS {
+        same("marks", count, stood)?;
+    }
+    Ok(stood)
+}
+
+/// The whole picture of a run, read back.
+fn check(run: &Run, svg: &str) -> Result<u64, String> {
+    let all = elements(svg)?;
+    if all.iter().any(|element| {
+        element.name == "script"
+            || element
+                .attributes
+                .iter()
+                .any(|(name, _)| name.starts_with("on") || name.contains("href"))
+    }) {
+        return Err(String::from("a script or a link"));
+    }
+    for (name, value) in all.iter().flat_map(|element| &element.attributes) {
+        if value.contains("NaN") || value.contains("inf") {
+            return Err(format!("{name}=\"{value}\""));
+        }
+    }
+    if svg.len() >= 2_000_000 {
+        return Err(format!("the picture has {} bytes", svg.len()));
+    }
+    if run.frames.is_empty() {
+        return Ok(0);
+    }
+    for tick in
+        all.iter().filter(|element| element.is("text", "small middle") && element.text != "frame")
+    {
+        let frame: f64 = tick
+            .text
+            .replace(',', "")
+            .parse()
+            .map_err(|_| format!("a frame's number: {}", tick.text))?;
+        let x = LEFT + WIDTH * (frame + 0.5) / run.frames.len() as f64;
+        same("a frame's number", (tick.number("x") - x).abs() <= 0.06, true)?;
+    }
+    let headings: Vec<&Element> = all.iter().filter(|element| element.is("text", "head")).collect();
+    same("panels", headings.len(), 2 + run.actuators())?;
+    let top = headings[1].number("y") + 8.0;
+    let axis = Axis::read(&all, (top, top + 56.0))?;
+    let agreement: Vec<f64> = run.frames.iter().map(|frame| frame.agreement as f64).collect();
+    let inside = |element: &&Element| {
+        element.name == "path"
+            && element.get("class").starts_with("line")
+            && strokes(element.get("d"))
+                .first()
+                .is_some_and(|&(_, _, y)| y >= top - 0.1 && y <= top + 56.1)
+    };
+    let drawn = all.iter().find(inside).map_or("", |element| element.get("d"));
+    check_curve(run, drawn, &axis, &agreement, "agreement")?;
+    for actuator in 0..run.actuators() {
+        check_setpoint(run, &all, headings[2 + actuator], actuator)?;
+    }
+    check_nodes(run, &all)
+}
+
+/// 100,000 frames of the largest plan, faults in a tenth of them.
 fn long(tree: &Tree) -> Result<(usize, u64), String> {
-    let plan = fs::read(tree.root.join("tests/listings/largest/plan.txt"))
-        .map_err(|error| error.to_string())?;
-    let text = fs::read(tree.root.join("tests/listings/largest/run.txt"))
-        .map_err(|error| error.to_string())?;
+    let read = |name: &str| {
+        fs::read(tree.root.join("tests/listings/largest").join(name))
+            .map_err(|error| error.to_string())
+    };
+    let (plan, text) = (read("plan.txt")?, read("run.txt")?);
     let sensors = super::view::text::rows(&plan)[0][4] as usize;
     let r = &Random::new(7);
     let mut lines: Vec<_> = runs::lines(&text, sensors).into_iter().cycle().take(100_000).collect();
@@ -148,25 +464,27 @@ pub fn all(tree: &Tree) -> Tested {
     for example in tables::EXAMPLES {
         let folder = tree.root.join("examples").join(example);
         let output = super::verbs::call(tree, &["picture", &folder.display().to_string(), "-"]);
-        let text = fs::read(folder.join("run.txt")).map_err(|error| error.to_string())?;
-        let plan = fs::read(folder.join("plan.txt")).map_err(|error| error.to_string())?;
-        let (run, _) = tables::run(tree, plan, text)?.ok_or("a plan that is refused")?;
+        let read = |name: &str| {
+            fs::read(folder.join(name)).map_err(|error| format!("{example}/{name}: {error}"))
+        };
+        let (run, _) = tables::run(tree, read("plan.txt")?, read("run.txt")?)?
+            .ok_or("a plan that is refused")?;
         check(&run, &output.out).map_err(|report| format!("{example}: {report}"))?;
-        if let Ok(kept) = fs::read_to_string(folder.join("picture.svg")) {
-            same(example, output.out == kept, true)
-                .map_err(|_| format!("examples/{example}/picture.svg is not what picture draws"))?;
+        if output.out.as_bytes() != read("picture.svg")? {
+            return Err(format!("examples/{example}/picture.svg is not what picture draws"));
         }
     }
-    let one = |seed: u64, counts: &mut [u64; 2]| {
+    let one = |seed: u64, counts: &mut [u64; 3]| {
         let case = case(seed);
         let (Some(plan), Some(text)) = (case.plan, case.run) else { return Ok(()) };
         let Some((run, mut names)) = tables::run(tree, plan, text)? else { return Ok(()) };
-        names = Names { title: Some(String::from("a < b & \"c\" > d")), ..names };
+        names = Names { title: Some(String::from("a < b & \"c\" > d\u{1b}\u{c}")), ..names };
         counts[0] += 1;
         counts[1] += check(&run, &picture::svg(&run, &names, "case"))?;
+        counts[2] += u64::from(run.frames.len() > COLUMNS);
         Ok(())
     };
-    let sum = each(800, one, |sum: &mut [u64; 2], count| (0..2).for_each(|i| sum[i] += count[i]))?;
+    let sum = each(1000, one, |sum: &mut [u64; 3], count| (0..3).for_each(|i| sum[i] += count[i]))?;
     let (size, faults) = long(tree)?;
     for broken in [
         "<svg><a></svg></a>",
@@ -175,9 +493,15 @@ pub fn all(tree: &Tree) -> Tested {
         "<svg/><svg/>",
         "<svg><a</svg>",
     ] {
-        if well_formed(broken).is_ok() {
+        if elements(broken).is_ok() {
             return Err(format!("the test takes {broken} for well-formed"));
         }
     }
-    Ok(format!("{} examples, {} runs, as many marks as faults ({}); 100,000 frames with {faults} faults in {size} bytes", tables::EXAMPLES.len(), sum[0], sum[1]))
+    Ok(format!(
+        "{} examples, {} runs, {} of them with shared columns, curves and marks as listed, as many marks as faults ({}); 100,000 frames with {faults} faults in {size} bytes",
+        tables::EXAMPLES.len(),
+        sum[0],
+        sum[2],
+        sum[1]
+    ))
 }

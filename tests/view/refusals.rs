@@ -22,6 +22,13 @@ pub fn all(tree: &Tree) -> Tested {
             Checked::Refused(refused) => {
                 same(case.class, found.as_ref().map(|cause| cause.refusal), Some(refused))?;
                 whole(&cause::report("plan.txt", refused, found.as_ref(), None))?;
+                if refused.number == 6 {
+                    same(
+                        "cells never known",
+                        found.map(|cause| cause.cells),
+                        Some(never_known(&plan)),
+                    )?;
+                }
                 *counts.entry(refused.number).or_default() += 1;
             }
             Checked::Accepted(period) => {
@@ -58,6 +65,15 @@ pub fn all(tree: &Tree) -> Tested {
         }
         false => Err(format!("some refusal hardly came up: {}", words.join(", "))),
     }
+}
+
+/// The cells that the reference does not know after the longest period there could be, from some
+/// first frame.
+fn never_known(text: &[u8]) -> Vec<usize> {
+    let plan = plan::parse(text).expect("a plan that keeps rules 1 to 5");
+    let count = 1 + plan.frames * plan.cells;
+    let known: Vec<_> = (0..plan.frames).map(|first| plan.known_after(first, count)).collect();
+    (0..plan.cells).filter(|&cell| known.iter().any(|known| !known[cell])).collect()
 }
 
 /// First line and rule, nothing left out.

@@ -5,7 +5,7 @@ use std::fs;
 use super::cases::case;
 use super::plan;
 use super::view::folder::{followed, Accepted, Plan, RunFile};
-use super::view::listing::Run;
+use super::view::listing::{Run, State};
 use super::view::names::Names;
 use super::view::{pattern, show, text};
 use super::{each, same, Tested, Tree};
@@ -82,7 +82,7 @@ fn rounded(value: f64) -> f64 {
 /// which the least and the greatest are shown.
 fn check_short_table(run: &Run, names: &Names) -> Result<(), String> {
     let table = show::table(run, names, false);
-    let mut due = 0;
+    let (mut due, mut rows) = (0, 0);
     for line in table.lines().skip(3) {
         let words: Vec<&str> = line.split_whitespace().collect();
         let Some(frames) = words.first().and_then(|word| frames_of(word)) else { break };
@@ -97,6 +97,14 @@ fn check_short_table(run: &Run, names: &Names) -> Result<(), String> {
             same("frames in one row", alike(frame), alike(first))
                 .map_err(|report| report + &table)?;
         }
+        let states = run.states[first].iter().zip(&run.states[due - 1]);
+        let wanted: Vec<String> = states.map(|(&first, &last)| state_word(first, last)).collect();
+        same(
+            "states",
+            words[setpoints - 2 - run.nodes()..setpoints - 2].join(" "),
+            wanted.join(" "),
+        )?;
+        rows += 1;
         for (actuator, word) in words[setpoints..].iter().enumerate() {
             let values = || {
                 frames.clone().map(|frame| f64::from_bits(run.frames[frame].setpoints[actuator]))
@@ -123,7 +131,48 @@ fn check_short_table(run: &Run, names: &Names) -> Result<(), String> {
             same("greatest", greatest.parse().ok(), Some(rounded(high)))?;
         }
     }
-    same("frames shown", due, run.frames.len()).map_err(|report| report + &table)
+    same("frames shown", due, run.frames.len()).map_err(|report| report + &table)?;
+    // Frames that are alike share rows: each change has a row, and those behind it one.
+    let counts = |frame: usize| (run.frames[frame].equal, run.frames[frame].agreement);
+    let kinds = |frame: usize| {
+        run.states[frame]
+            .iter()
+            .map(|&state| state_word(state, state).replace(char::is_numeric, ""))
+            .collect::<Vec<_>>()
+    };
+    let marks = |frame: usize| {
+        (0..run.actuators()).map(|actuator| run.differs(frame, actuator)).collect::<Vec<_>>()
+    };
+    let changed = |frame: &usize| {
+        counts(*frame) != counts(*frame - 1)
+            || kinds(*frame) != kinds(*frame - 1)
+            || marks(*frame) != marks(*frame - 1)
+    };
+    let changes = (1..run.frames.len()).filter(changed).count();
+    match run.frames.len() <= 50 || rows <= 2 * changes + 3 {
+        true => Ok(()),
+        false => Err(format!("{rows} rows for {changes} changes\n{table}")),
+    }
+}
+
+fn state_word(first: State, last: State) -> String {
+    match (first, last) {
+        (State::Bad, _) => String::from("BAD"),
+        (State::Working, _) => String::from("ok"),
+        (State::Recovering(first), State::Recovering(last)) if first != last => {
+            format!("+{first}-{last}")
+        }
+        (State::Recovering(count), _) => format!("+{count}"),
+    }
+}
+
+/// A run with one state that is not the listing's is not shown.
+fn check_held(mut run: Run, seed: u64) -> Result<(), String> {
+    same("held to the listing", run.is_listed(), true)?;
+    let Some(frame) = (seed as usize).checked_rem(run.frames.len()) else { return Ok(()) };
+    let state = &mut run.states[frame][0];
+    *state = if *state == State::Working { State::Recovering(1) } else { State::Working };
+    same("held to the listing", run.is_listed(), false)
 }
 
 pub fn all(tree: &Tree) -> Tested {
@@ -143,6 +192,7 @@ pub fn all(tree: &Tree) -> Tested {
         let Some((run, names)) = run(tree, plan, text)? else { return Ok(()) };
         check_table(&run, &names)?;
         check_short_table(&run, &names)?;
+        check_held(run.clone(), seed)?;
         counts[0] += 1;
         counts[1] += run.frames.len() as u64;
         counts[2] += (0..run.frames.len()).filter(|&frame| run.any_differs(frame)).count() as u64;

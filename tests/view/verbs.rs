@@ -115,6 +115,26 @@ fn everything_right(work: &Work) -> Result<(), String> {
         text.starts_with("fill 0\nsensors  s0     s1\n         10      0  times 2\n"),
         true,
     )?;
+    // A picture to a file of the user's, to its own place, and printed.
+    let press = work.example("press/picture.svg")?;
+    let place = work.at("bare/press.svg");
+    work.right(&["picture", "examples/press", &place], &format!("{place}\n"))?;
+    same("the picture", fs::read_to_string(&place).ok(), Some(press.clone()))?;
+    work.right(&["picture", "examples/press", "-"], &press)?;
+    work.file("bare/run.txt", work.example("numbering/run.txt")?)?;
+    work.right(&["picture", &work.at("bare")], &format!("{}\n", work.at("bare/picture.svg")))?;
+    same(
+        "its title",
+        fs::read_to_string(work.at("bare/picture.svg"))
+            .is_ok_and(|picture| picture.contains("<title>bare</title>")),
+        true,
+    )?;
+    // A long run: rows of several frames, or each frame.
+    let long = ["show", "tests/listings/small"];
+    let rows = |output: &Output| output.out.lines().count();
+    let (some, all) = (call(work.tree, &long), call(work.tree, &["show", "--all", long[1]]));
+    same("show --all", (rows(&all) > 2000, rows(&some) < 1500), (true, true))?;
+    same("show --all", call(work.tree, &["show", long[1], "--all"]).out, all.out)?;
     let help = call(work.tree, &["help"]);
     for verb in ["run", "check", "plan", "text", "show", "picture", "histories", "library"] {
         let own = |line: &&str| line.starts_with(&format!("  {verb}"));
@@ -159,9 +179,11 @@ fn refused_texts(work: &Work) -> Result<(), String> {
     work.file("plan/run.txt", work.example("k/run.txt")?)?;
     let words = "refusal 5: cell a is 2, the plan has 2 cells (0 to 1)";
     let output = call(work.tree, &["check", &plan]);
-    let first = output.out.lines().next().map(String::from);
-    let wanted = (1, Some(format!("{plan}:5: {words}")), String::new());
-    same("check", (output.status, first, output.errors), wanted)?;
+    let report = format!(
+        "{plan}:5: {words}\n  |   11   1   1   2                   1                   0\n  |             ^^^^ column 4, cell a\n  rule: {}\n",
+        super::view::cause::rule(5)
+    );
+    same("check", (output.status, output.out, output.errors), (1, report, String::new()))?;
     work.refused(&["run", &work.at("plan")], "   5       5\n", words)?;
     work.refused(&["histories", &plan], "   5       5\n", words)?;
     for verb in ["text", "show", "picture"] {
@@ -173,6 +195,18 @@ fn refused_texts(work: &Work) -> Result<(), String> {
     let listing = work.example("k/listing.txt")?;
     let first = listing.split_inclusive('\n').next().unwrap_or_default();
     work.refused(&["run", &work.at("line")], &format!("{first}  10       2\n"), words)?;
+    let line = "\n  |    8 255 4607182418800017408\n  | ^^^^ column 1, mask\n  rule: ";
+    work.refused(
+        &["run", &work.at("line")],
+        &format!("{first}  10       2\n"),
+        &format!("{words}{line}"),
+    )?;
+    work.refused(
+        &["picture", &work.at("line"), &work.at("line/x.svg")],
+        &format!("{}\n", work.at("line/x.svg")),
+        words,
+    )?;
+    work.refused(&["text", &work.at("line"), &work.at("line/run.txt")], "", words)?;
     let output = call(work.tree, &["show", &work.at("line")]);
     let ended = output.out.contains(
         "1 frame run, 0 faults, every setpoint as without faults, ended by refusal 10 of line 2\n",
@@ -192,6 +226,13 @@ fn named_files(work: &Work) -> Result<(), String> {
         ("nodes 5", "nodes 99999", "plan.named:3: '99999': the number of nodes is a whole number, 1 to 7"),
         ("nodes 5", "nodes: 5", "plan.named:3: 'nodes': no colon stands behind this word, unless a frame is called so"),
         ("nodes 5\n", "\n", "plan.named: the nodes are missing; write for example: nodes 3"),
+        ("nodes 5\n", "nodes 5\nnodes 4\n", "plan.named:4: 'nodes': line 3 has the nodes already"),
+        ("frames correct drive", "frames correct drive f0 f1 f2 f3 f4 f5 f6 f7 f8 f9 f10 f11 f12 f13 f14", "plan.named:4: 'correct': refusal 3: frames is 17, a plan has 1 to 16"),
+        ("sensors speed", "sensors x0 x1 x2 x3 x4 x5 x6 x7 x8 x9 x10 x11 speed", "plan.named:5: 'x0': refusal 3: sensors is 17, a plan has 1 to 16"),
+        ("cell speed\n", "cell speed speed\n", "plan.named:7: 'speed': another cell has this name already"),
+        ("= sum speed cyan_trim", "= scale speed 0x7ff0000000000000", "plan.named:22: '0x7ff0000000000000': refusal 5: factor is inf, it must be finite"),
+        ("limit cyan 0 25", "limit cyan 26 25", "plan.named:26: '26': refusal 5: low is 26, above high, which is 25"),
+        ("correct: speed         = take speed", "7: speed = take speed", "plan.named:12: '7': refusal 5: frame is 7, the plan has 2 frames (0 to 1)"),
         ("limit cyan 0 25", "limit cyan 0", "plan.named:26: 'limit': the form is: limit CELL LOW HIGH"),
         ("limit cyan 0 25", "limit cyan 0 NaN", "plan.named:26: 'NaN': a value is a decimal number as 20, -0.5 or 1e-9, or a pattern: NaN is 0x7ff8000000000000"),
         ("cell speed\n", "cell speed = 1 b = 2\n", "plan.named:7: 'cell': the form is: cell NAME .. = VALUE"),
@@ -202,13 +243,22 @@ fn named_files(work: &Work) -> Result<(), String> {
         work.refused(&["plan", &path], "", words)?;
         let output = call(work.tree, &["check", &path]);
         same("check", (output.status, output.out.contains(words), output.errors.as_str()), (1, true, ""))?;
+        same("a rule", output.out.contains("\n  rule: "), words.contains("refusal"))?;
     }
+    let path = work.file("named/bytes.named", b"nodes 3\nframes 2\nsensors \xff\n")?;
+    work.refused(&["plan", &path], "", "bytes.named:3: the line is not UTF-8 text")?;
     for (run, words) in [
         ("1 times 2\n1 bad 2 silent\n", "run.named:2: 'silent': refusal 10: fill is 256, silence"),
         ("fill 300\n# so\n1\n", "run.named:1: '300': refusal 10: fill is 300, a fill is 0 to 255"),
         ("1\n1 bad 3\n", "run.named:2: '3': the plan has no such node; its nodes are 0 to 2"),
         ("1 bad 1,2\n", "run.named:1: '1,2': a node is a whole number, 0 to 2"),
         ("1 2\n", "run.named:1: '2': 2 values in this line, and the plan has 1 sensor"),
+        ("1 bad 2 2\n", "run.named:1: '2': this node stands there already"),
+        ("fill 7 8\n1\n", "run.named:1: '8': nothing more stands in this line"),
+        (
+            "1 fill 7 bad 2\n",
+            "run.named:1: 'bad': behind the values stand, in this order: bad NODES",
+        ),
         ("bad 1\n", "run.named:1: 'bad': the sensors' values come first"),
         (".5\n", "run.named:1: '.5': a value is a decimal number"),
         ("1 times +5\n", "run.named:1: '+5': how many frames are alike is a whole number"),
@@ -244,13 +294,26 @@ fn named_folders(work: &Work) -> Result<(), String> {
         "by name/plan.named",
         work.example("press/plan.named")?.replacen("nodes 5", "nodes 4", 1),
     )?;
-    for verb in ["run", "check", "histories"] {
+    let accepted = String::from("accepted: 5 nodes, 2 frames, 13 cells, R = 3\n");
+    let histories = work.example("press/histories.txt")?;
+    let listing = work.example("press/listing.txt")?;
+    for (verb, wanted) in [("run", listing), ("check", accepted), ("histories", histories)] {
         let output = call(work.tree, &[verb, &work.at("by name")]);
         let said =
             output.errors.contains("plan.named does not give plan.txt, which is used; to use it: ");
-        same(verb, (output.status, said), (0, true))?;
+        same(verb, (output.status, output.out, said), (0, wanted, true))?;
     }
-    Ok(())
+    // Its names are not those of the text, then.
+    let output = call(work.tree, &["show", &work.at("by name")]);
+    let head = output.out.lines().nth(2).unwrap_or_default();
+    same("made-up names", (head.contains(" a0 "), head.contains("cyan")), (true, false))?;
+    // A refused line of a run by name, in a folder.
+    work.file("silent/plan.named", work.example("k/plan.named")?)?;
+    work.file("silent/run.named", "1\n1 bad 2 silent\n")?;
+    let listing = work.example("k/listing.txt")?;
+    let first = listing.split_inclusive('\n').next().unwrap_or_default();
+    let words = "run.named:2: 'silent': refusal 10: fill is 256, silence";
+    work.refused(&["run", &work.at("silent")], &format!("{first}  10       2\n"), words)
 }
 
 /// Output that cannot be written is told; a closed pipe is not; a link to the script works.
@@ -318,6 +381,17 @@ fn first_use(work: &Work) -> Result<(), String> {
         fs::read_to_string(root.join("target/prove.log")).map_err(|error| error.to_string())?;
     same("the log", log.contains("fn plan::f: proved\n") && log.contains("noise\n"), true)?;
     same("second use", call().errors.contains("proving"), false)?;
+    // A source that is newer, or crates.txt, is seen.
+    let later = std::time::SystemTime::now() + std::time::Duration::from_secs(3);
+    for name in ["crates/plan/src/lib.rt", "crates.txt"] {
+        let file = fs::File::open(root.join(name)).map_err(|error| error.to_string())?;
+        let before =
+            file.metadata().and_then(|data| data.modified()).map_err(|error| error.to_string())?;
+        file.set_modified(later).map_err(|error| error.to_string())?;
+        same("a newer source", call().errors.contains("proving"), true)?;
+        file.set_modified(before).map_err(|error| error.to_string())?;
+    }
+    same("sources as before", call().errors.contains("proving"), false)?;
     work.file("tree/bin/rt", "#!/bin/sh\necho 'rt: plan proved (1 s)'\necho 'rt: lines NOT PROVED (exit 1, 2 s)'\nexit 1\n")?;
     fs::remove_file(root.join("target/bin/run")).map_err(|error| error.to_string())?;
     let failed = call();

@@ -137,6 +137,18 @@ const REPORT: &str = "plan.txt:8: refusal 5: cap is -0, its sign bit must be 0
   rule: frames, cells and sensors are below the header's numbers, unused columns are 0, constants are finite, low <= high as floats, cap has sign bit 0
 ";
 
+/// Document 01's rules with the limits of today, in the words that are shown.
+const RULES: [(u64, &str); 8] = [
+    (1, "a plan text is 1 to 617 lines of 57 bytes, 35,169 bytes at most"),
+    (2, "a line is six numbers, right-justified in columns of width 4, 4, 4, 4, 20, 20, then a line feed; only blanks before the digits, no leading zeros, nothing above 2^64 - 1"),
+    (3, "the first line is the header, kind 0: nodes 1 to 7, frames 1 to 16, cells 1 to 32, sensors 1 to 16, actuators 1 to 8"),
+    (4, "the order is: one header; cells 0 to C - 1; tasks (kinds 10 to 16), at most 64, frames not falling; votes, strictly rising by frame, then cell; actuators 0 to A - 1"),
+    (5, "frames, cells and sensors are below the header's numbers, unused columns are 0, constants are finite, low <= high as floats, cap has sign bit 0"),
+    (6, "after some number of good frames, whichever frame was the first, every cell must be known: voted, or made by a task from cells that are known"),
+    (10, "a run line is mask (width 4), fill (4), a pattern for each sensor (20), then a line feed; mask below 2^nodes, fill at most 255, at most 100,000 lines"),
+    (11, "histories are listed for plans of at most 5 nodes"),
+];
+
 /// The words of all refusals, on texts with one error each.
 pub fn table(tree: &Tree) -> Tested {
     let plans = plans();
@@ -166,6 +178,9 @@ pub fn table(tree: &Tree) -> Tested {
         let found = cause::of_run(&header, &Names::made_up(&header), run, refused.line);
         let report = cause::report("run.txt", refused, found.as_ref(), None);
         same("a run line's refusal", report.lines().next(), Some(*words))?;
+    }
+    for (number, words) in RULES {
+        same("a rule", cause::rule(number), words)?;
     }
     let (refused, whole) = report(&with(8, 6, 1 << 63))?;
     same("a whole report", whole.as_str(), REPORT)?;
