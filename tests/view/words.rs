@@ -137,6 +137,12 @@ const REPORT: &str = "plan.txt:8: refusal 5: cap is -0, its sign bit must be 0
   rule: frames, cells and sensors are below the header's numbers, unused columns are 0, constants are finite, low <= high as floats, cap has sign bit 0
 ";
 
+const RUN_REPORT: &str = "run.txt:2: refusal 10: fill is 300, a fill is 0 to 255
+  |    0 300                   0                   0
+  |     ^^^^ column 2, fill
+  rule: a run line is mask (width 4), fill (4), a pattern for each sensor (20), then a line feed; mask below 2^nodes, fill at most 255, at most 100,000 lines
+";
+
 /// Document 01's rules with the limits of today, in the words that are shown.
 const RULES: [(u64, &str); 8] = [
     (1, "a plan text is 1 to 617 lines of 57 bytes, 35,169 bytes at most"),
@@ -152,7 +158,7 @@ const RULES: [(u64, &str); 8] = [
 /// The words of all refusals, on texts with one error each.
 pub fn table(tree: &Tree) -> Tested {
     let plans = plans();
-    let report = |plan: &[u8]| match tree.programs.check(plan).map_err(|missing| missing.0)? {
+    let plan_report = |plan: &[u8]| match tree.programs.check(plan).map_err(|missing| missing.0)? {
         Checked::Accepted(_) => Err(String::from("a damaged plan is accepted")),
         Checked::Refused(refused) => {
             let line =
@@ -164,7 +170,7 @@ pub fn table(tree: &Tree) -> Tested {
         }
     };
     for (plan, words) in &plans {
-        let (_, report) = report(plan).map_err(|report| format!("{report}: {words}"))?;
+        let (_, report) = plan_report(plan).map_err(|report| format!("{report}: {words}"))?;
         same("a plan's refusal", report.lines().next(), Some(*words))?;
     }
     let plan = text::text(&whole());
@@ -179,10 +185,15 @@ pub fn table(tree: &Tree) -> Tested {
         let report = cause::report("run.txt", refused, found.as_ref(), None);
         same("a run line's refusal", report.lines().next(), Some(*words))?;
     }
+    let (header, refused) = (whole()[0], cause::Refusal { number: 10, line: 2 });
+    let run = &runs[1].0;
+    let found = cause::of_run(&header, &Names::made_up(&header), run, 2);
+    let report = cause::report("run.txt", refused, found.as_ref(), Some(&run[RUN.len()..]));
+    same("a run line's whole report", report.as_str(), RUN_REPORT)?;
     for (number, words) in RULES {
         same("a rule", cause::rule(number), words)?;
     }
-    let (refused, whole) = report(&with(8, 6, 1 << 63))?;
+    let (refused, whole) = plan_report(&with(8, 6, 1 << 63))?;
     same("a whole report", whole.as_str(), REPORT)?;
     // Where the cause is of another refusal, only number, line and rule are told.
     let other = Cause {
