@@ -6,6 +6,7 @@ use std::ops::Range;
 
 use super::names::Names;
 use super::pattern::shown;
+use super::runs::{MOST, SILENT};
 use super::text::{self, columns, is_task, kind_words, number, place, Malformed, Row};
 
 /// "A refusal gives its number and a line from 1; 0 where no line is meant."
@@ -59,6 +60,11 @@ fn malformed(name: &str, why: &Malformed) -> String {
     }
 }
 
+/// The kind of a line, where it can be read: it tells the names of the columns.
+fn kind_of(line: &[u8]) -> u64 {
+    number(&line[place(0)]).unwrap_or(u64::MAX)
+}
+
 /// A column's name in a line of a kind; one that has none by its number.
 fn column_name(kind: u64, column: usize) -> String {
     match columns(kind)[column] {
@@ -95,13 +101,12 @@ struct Order {
 }
 
 /// A column from 0 and what is wrong with it.
-type Fault = (usize, String);
+type Wrong = (usize, String);
 
 impl Order {
-    /// 2: the first column that is not of form, or the line's end. The kind tells the names of the
-    /// others, where it can be read.
+    /// 2: the first column that is not of form, or the line's end.
     fn form(line: &[u8]) -> Result<Row, (Option<usize>, String)> {
-        let kind = number(&line[place(0)]).unwrap_or(u64::MAX);
+        let kind = kind_of(line);
         let mut row = Row::default();
         for (column, value) in row.iter_mut().enumerate() {
             let name = column_name(kind, column);
@@ -110,15 +115,15 @@ impl Order {
         }
         match line[text::LINE - 1] {
             b'\n' => Ok(row),
-            byte => Err((
-                None,
-                format!("the line ends with '{}' and not with a line feed", byte.escape_ascii()),
-            )),
+            byte => {
+                let end = byte.escape_ascii();
+                Err((None, format!("the line ends with '{end}' and not with a line feed")))
+            }
         }
     }
 
     /// 3
-    fn header(row: &Row) -> Option<Fault> {
+    fn header(row: &Row) -> Option<Wrong> {
         if row[0] != text::HEADER {
             return Some((0, format!("kind is {}, the first line is the header, kind 0", row[0])));
         }
@@ -129,7 +134,7 @@ impl Order {
     }
 
     /// 4
-    fn order(&self, row: &Row) -> Option<Fault> {
+    fn order(&self, row: &Row) -> Option<Wrong> {
         let [kind, second, third, ..] = *row;
         let [_, _, _, cells, _, actuators] = self.header;
         let what = kind_words(kind);
@@ -176,7 +181,7 @@ impl Order {
     }
 
     /// 5: the first column against the rules.
-    fn rules(&self, row: &Row) -> Option<Fault> {
+    fn rules(&self, row: &Row) -> Option<Wrong> {
         let [_, _, frames, cells, sensors, _] = self.header;
         let kind = row[0];
         (1..6).find_map(|column| {
@@ -231,7 +236,7 @@ impl Order {
     }
 
     /// 4, at the end.
-    fn missing(&self) -> Option<String> {
+    fn absent(&self) -> Option<String> {
         let [_, _, _, cells, _, actuators] = self.header;
         let (had, count, what) = match self.cells < cells {
             true => (self.cells, cells, "cell"),
@@ -295,35 +300,23 @@ fn never_known(rows: &[Row]) -> Vec<usize> {
     (0..cells).filter(|&cell| never[cell]).collect()
 }
 
-/// What a plan text has wrong, "line by line", if anything is found. With names, cells go by them.
-pub fn of_plan(text: &[u8], names: Option<&Names>) -> Option<Cause> {
-    if let Some(words) = length(text) {
-        return Some(Cause::new(1, 0, words));
-    }
+/// What the lines of a text have wrong, one after another, or else their numbers.
+fn of_lines(text: &[u8]) -> Result<Vec<Row>, Cause> {
     let mut order = Order::default();
     let mut rows = Vec::new();
     for (index, line) in text.chunks_exact(text::LINE).enumerate() {
-        let at = |number: u64, column: Option<usize>, kind: u64, words: String| {
-            let column = column.map(|column| (column, place(column), column_name(kind, column)));
-            Some(Cause { column, ..Cause::new(number, index + 1, words) })
+        let at = |number: u64, column: Option<usize>, words: String| {
+            let named = |column| (column, place(column), column_name(kind_of(line), column));
+            Cause { column: column.map(named), ..Cause::new(number, index + 1, words) }
         };
-        let row = match Order::form(line) {
-            Ok(row) => row,
-            Err((column, words)) => {
-                let kind = number(&line[place(0)]).unwrap_or(u64::MAX);
-                return at(2, column, kind, words);
-            }
+        let row = Order::form(line).map_err(|(column, words)| at(2, column, words))?;
+        let (number, wrong) = match (index, order.order(&row)) {
+            (0, _) => (3, Order::header(&row)),
+            (_, Some(wrong)) => (4, Some(wrong)),
+            (_, None) => (5, order.rules(&row)),
         };
-        let (number, fault) = match index {
-            0 => (3, Order::header(&row)),
-            _ => match order.order(&row) {
-                Some(fault) => (4, Some(fault)),
-                None => (5, order.rules(&row)),
-            },
-        };
-        if let Some((column, words)) = fault {
-            let kind = if index == 0 { text::HEADER } else { row[0] };
-            return at(number, Some(column), kind, words);
+        if let Some((column, words)) = wrong {
+            return Err(at(number, Some(column), words));
         }
         match index {
             0 => order.header = row,
@@ -331,10 +324,21 @@ pub fn of_plan(text: &[u8], names: Option<&Names>) -> Option<Cause> {
         }
         rows.push(row);
     }
-    if let Some(words) = order.missing() {
-        return Some(Cause::new(4, rows.len() + 1, words));
+    match order.absent() {
+        Some(words) => Err(Cause::new(4, rows.len() + 1, words)),
+        None => Ok(rows),
     }
-    let cells = never_known(&rows);
+}
+
+/// What a plan text has wrong, if anything is found. With names, cells go by them.
+pub fn of_plan(text: &[u8], names: Option<&Names>) -> Option<Cause> {
+    if let Some(words) = length(text) {
+        return Some(Cause::new(1, 0, words));
+    }
+    let cells = match of_lines(text) {
+        Ok(rows) => never_known(&rows),
+        Err(cause) => return Some(cause),
+    };
     let name = |&cell: &usize| match names {
         Some(names) => names.cells[cell].clone(),
         None => cell.to_string(),
@@ -353,57 +357,66 @@ pub fn run_line(sensors: usize) -> usize {
     9 + 20 * sensors
 }
 
-/// What line `line` (from 1) of a run has wrong, under a plan with this header.
-pub fn of_run(header: &Row, names: &Names, run: &[u8], line: usize) -> Option<Cause> {
-    let cause = |words: String| Some(Cause::new(10, line, words));
-    let size = run_line(header[4] as usize);
-    if line > 100_000 {
-        return cause(String::from("a run has at most 100,000 lines"));
-    }
-    let rest = run.get((line - 1) * size..)?;
-    let bytes = &rest[..size.min(rest.len())];
+/// Why a run line has not its length or its end.
+fn run_form(bytes: &[u8], sensors: u64) -> Option<String> {
+    let size = run_line(sensors as usize);
     let end = bytes.iter().position(|&byte| byte == b'\n');
-    if end != Some(size - 1) {
-        let found = match end {
-            Some(end) => format!("the line has {} bytes", end + 1),
-            None if bytes.len() < size => {
-                format!("the line has {} bytes and no line feed", bytes.len())
-            }
-            None => format!("no line feed stands at byte {size} of the line"),
-        };
-        return cause(format!(
-            "{found}; with {} a run line has {size}",
-            range(header[4], "sensor")
-        ));
+    let found = match end {
+        Some(end) if end + 1 == size => return None,
+        Some(end) => format!("the line has {} bytes", end + 1),
+        None if bytes.len() < size => {
+            format!("the line has {} bytes and no line feed", bytes.len())
+        }
+        None => format!("no line feed stands at byte {size} of the line"),
+    };
+    Some(format!("{found}; with {} a run line has {size}", range(sensors, "sensor")))
+}
+
+/// What line `line` (from 1) of a run has wrong, under an accepted plan with this header.
+pub fn of_run(header: &Row, names: &Names, run: &[u8], line: usize) -> Option<Cause> {
+    let size = run_line(header[4] as usize);
+    if line > MOST {
+        return Some(Cause::new(10, line, "a run has at most 100,000 lines"));
     }
-    let mut start = 0;
-    for column in 0..2 + header[4] as usize {
-        let place = start..start + if column < 2 { 4 } else { 20 };
-        start = place.end;
+    let rest = run.get(line.checked_sub(1)? * size..)?;
+    let bytes = &rest[..size.min(rest.len())];
+    if let Some(words) = run_form(bytes, header[4]) {
+        return Some(Cause::new(10, line, words));
+    }
+    let places =
+        [0..4, 4..8].into_iter().chain((8..size - 1).step_by(20).map(|start| start..start + 20));
+    places.enumerate().find_map(|(column, place)| {
         let name = match column {
             0 => String::from("mask"),
             1 => String::from("fill"),
             _ => format!("sensor {} ({})", column - 2, names.sensors[column - 2]),
         };
-        let most = 1 << header[1];
-        let words = match number(&bytes[place.clone()]) {
-            Err(why) => malformed(&name, &why),
-            Ok(mask) if column == 0 && mask >= most => {
-                format!(
-                    "mask is {mask}, with {} a mask is 0 to {}",
-                    range(header[1], "node"),
-                    most - 1
-                )
-            }
-            Ok(256) if column == 1 => String::from(
-                "fill is 256, silence, which this program does not have yet; a fill is 0 to 255",
-            ),
-            Ok(fill) if column == 1 && fill > 255 => format!("fill is {fill}, a fill is 0 to 255"),
-            Ok(_) => continue,
-        };
-        return Some(Cause { column: Some((column, place, name)), ..Cause::new(10, line, words) });
+        let words = run_column(header, column, number(&bytes[place.clone()]), &name)?;
+        let column = Some((column, place, name));
+        Some(Cause { column, ..Cause::new(10, line, words) })
+    })
+}
+
+/// What the number of a run line's column has wrong.
+fn run_column(
+    header: &Row,
+    column: usize,
+    value: Result<u64, Malformed>,
+    name: &str,
+) -> Option<String> {
+    let masks = 1u64 << header[1];
+    match (column, value) {
+        (_, Err(why)) => Some(malformed(name, &why)),
+        (0, Ok(mask)) if mask >= masks => {
+            let nodes = range(header[1], "node");
+            Some(format!("mask is {mask}, with {nodes} a mask is 0 to {}", masks - 1))
+        }
+        (1, Ok(SILENT)) => Some(format!(
+            "fill is {SILENT}, silence, which this program does not have yet; a fill is 0 to 255"
+        )),
+        (1, Ok(fill)) if fill > 255 => Some(format!("fill is {fill}, a fill is 0 to 255")),
+        _ => None,
     }
-    None
 }
 
 /// The refusal for people: file, line, number and words; the line itself with its column; the rule.

@@ -9,10 +9,10 @@ use super::cause::{self, Cause, Refusal};
 use super::listing::{self, Run};
 use super::named::{self, Named};
 use super::names::Names;
-use super::programs::{missing, say, Checked, Found, Missing, Programs};
+use super::programs::{say, unable, Checked, Found, Programs, Unable};
 use super::runs::{self, NamedRun};
 use super::text::{self, Row};
-use super::words::Fault;
+use super::words::Mistake;
 
 pub const PLAN: &str = "plan.txt";
 pub const RUN: &str = "run.txt";
@@ -22,13 +22,13 @@ pub const NAMED_RUN: &str = "run.named";
 /// Why there is nothing to show: a file is missing (status 2), or a plan, a run line or a named
 /// file is refused (status 1), with its report.
 pub enum Stop {
-    Missing(String),
+    Unable(String),
     Refused(String),
 }
 
-impl From<Missing> for Stop {
-    fn from(missing: Missing) -> Stop {
-        Stop::Missing(missing.0)
+impl From<Unable> for Stop {
+    fn from(unable: Unable) -> Stop {
+        Stop::Unable(unable.0)
     }
 }
 
@@ -55,9 +55,9 @@ pub struct RunFile {
 fn bytes(path: &Path) -> Found<Vec<u8>> {
     let shown = path.display();
     fs::read(path).or_else(|error| match error.kind() {
-        ErrorKind::NotFound => missing(format!("there is no file {shown}; name one that is there")),
-        ErrorKind::IsADirectory => missing(format!("{shown} is a folder; name a file in it")),
-        _ => missing(format!("{shown} cannot be read ({error}); name a file that can be")),
+        ErrorKind::NotFound => unable(format!("there is no file {shown}; name one that is there")),
+        ErrorKind::IsADirectory => unable(format!("{shown} is a folder; name a file in it")),
+        _ => unable(format!("{shown} cannot be read ({error}); name a file that can be")),
     })
 }
 
@@ -69,7 +69,7 @@ fn words(path: &Path, bytes: &[u8]) -> Outcome<String> {
             let before = &bytes[..error.valid_up_to()];
             let line = before.iter().filter(|&&byte| byte == b'\n').count() + 1;
             let says = String::from("the line is not UTF-8 text");
-            let fault = Fault { line, word: String::new(), says };
+            let fault = Mistake { line, word: String::new(), says };
             Err(Stop::Refused(fault.report(&path.display().to_string())))
         }
     }
@@ -82,7 +82,7 @@ fn is_named(path: &Path) -> bool {
 pub fn folder(path: &Path) -> Found<PathBuf> {
     match path.is_dir() {
         true => Ok(path.to_path_buf()),
-        false => missing(format!(
+        false => unable(format!(
             "there is no folder {}; name one with {PLAN} and {RUN} in it, or {NAMED_PLAN} and {NAMED_RUN}",
             path.display()
         )),
@@ -95,10 +95,10 @@ pub fn named_plan(path: &Path) -> Outcome<Plan> {
     let bytes = bytes(path)?;
     if bytes.starts_with(b"   0") && bytes.get(text::LINE - 1) == Some(&b'\n') {
         let says = format!("{file} is a plan text already; ./ragbasalt text gives its named form");
-        return Err(Stop::Missing(says));
+        return Err(Stop::Unable(says));
     }
-    let named =
-        named::read(&words(path, &bytes)?).map_err(|fault| Stop::Refused(fault.report(&file)))?;
+    let named = named::read(&words(path, &bytes)?)
+        .map_err(|mistake| Stop::Refused(mistake.report(&file)))?;
     Ok(Plan { text: text::text(&named.rows), named: Some(named), file, is_named: true })
 }
 
@@ -108,10 +108,11 @@ fn plan_text(path: &Path) -> Outcome<Plan> {
     let text = bytes(path)?;
     if std::str::from_utf8(&text).is_ok_and(named::begins) {
         let says = format!("{file} looks like a named plan; call it *.named, or make its text with ./ragbasalt plan");
-        return Err(Stop::Missing(says));
+        return Err(Stop::Unable(says));
     }
-    let beside = fs::read(path.with_file_name(NAMED_PLAN)).ok();
-    let named = beside.and_then(|beside| named::read(&words(path, &beside).ok()?).ok());
+    let beside = path.with_file_name(NAMED_PLAN);
+    let named = fs::read(&beside).ok();
+    let named = named.and_then(|bytes| named::read(&words(&beside, &bytes).ok()?).ok());
     let named = named.filter(|named| text::text(&named.rows) == text);
     Ok(Plan { file, text, named, is_named: false })
 }
@@ -126,7 +127,7 @@ pub fn plan(path: &Path) -> Outcome<Plan> {
     if !beside.exists() {
         return match file.exists() {
             true => plan_text(&file),
-            false => Err(Stop::Missing(format!(
+            false => Err(Stop::Unable(format!(
                 "there is neither {PLAN} nor {NAMED_PLAN} in {}; put one there",
                 path.display()
             ))),
@@ -147,7 +148,7 @@ pub fn plan(path: &Path) -> Outcome<Plan> {
 pub fn named_run(path: &Path, plan: &Accepted) -> Outcome<RunFile> {
     let file = path.display().to_string();
     let named = runs::read(&words(path, &bytes(path)?)?, plan.header(), &plan.names);
-    let named = named.map_err(|fault| Stop::Refused(fault.report(&file)))?;
+    let named = named.map_err(|mistake| Stop::Refused(mistake.report(&file)))?;
     Ok(RunFile { text: runs::text(&named.lines), named: Some(named), file })
 }
 
@@ -163,7 +164,7 @@ pub fn run(folder: &Path, plan: &Accepted) -> Outcome<RunFile> {
     if !beside.exists() {
         return match file.exists() {
             true => run_text(&file),
-            false => Err(Stop::Missing(format!(
+            false => Err(Stop::Unable(format!(
                 "there is neither {RUN} nor {NAMED_RUN} in {}; put one there",
                 folder.display()
             ))),
@@ -235,7 +236,7 @@ fn named_report(file: &str, named: &Named, refusal: Refusal, found: Option<&Caus
     let (line, word) = place.cloned().unwrap_or_default();
     let says = format!("refusal {}: {words}", refusal.number);
     let rule = if found.is_some() { format!("  rule: {rule}\n") } else { String::new() };
-    Fault { line, word, says }.report(file) + &rule
+    Mistake { line, word, says }.report(file) + &rule
 }
 
 impl RunFile {
@@ -250,7 +251,7 @@ impl RunFile {
                 if is_fill { source.fill.clone() } else { (source.line, String::new()) };
             let words = found.as_ref().map_or(cause::rule(refusal.number), |found| &found.words);
             let says = format!("refusal {}: {words}", refusal.number);
-            return Fault { line, word, says }.report(&self.file);
+            return Mistake { line, word, says }.report(&self.file);
         }
         let size = cause::run_line(plan.header()[4] as usize);
         let start = self.text.len().min(index.saturating_mul(size));
@@ -290,7 +291,7 @@ pub fn followed(plan: &Accepted, file: &RunFile, programs: &Programs) -> Outcome
     };
     match run.is_listed() {
         true => Ok(run),
-        false => Err(Stop::Missing(format!(
+        false => Err(Stop::Unable(format!(
             "what is shown of {} would not be what the proved program listed; print the listing itself with ./ragbasalt run",
             file.file
         ))),

@@ -70,7 +70,7 @@ pub fn states(masks: impl Iterator<Item = u64>, nodes: usize, period: usize) -> 
 
 /// A fault: one node is bad in these frames, from the first to the last, and not in those beside.
 #[derive(Clone, Copy, PartialEq, Eq, Debug)]
-pub struct Knock {
+pub struct Fault {
     pub node: usize,
     pub first: usize,
     pub last: usize,
@@ -88,10 +88,10 @@ pub fn stretches(count: usize, test: impl Fn(usize) -> bool) -> Vec<(usize, usiz
     found
 }
 
-pub fn faults(states: &[Vec<State>], nodes: usize) -> Vec<Knock> {
+pub fn faults(states: &[Vec<State>], nodes: usize) -> Vec<Fault> {
     let of = |node: usize| stretches(states.len(), move |frame| states[frame][node] == State::Bad);
-    let knock = |node| move |(first, last)| Knock { node, first, last };
-    (0..nodes).flat_map(|node| of(node).into_iter().map(knock(node))).collect()
+    let fault = |node| move |(first, last)| Fault { node, first, last };
+    (0..nodes).flat_map(|node| of(node).into_iter().map(fault(node))).collect()
 }
 
 /// A run with everything that is shown of it.
@@ -104,7 +104,7 @@ pub struct Run {
     pub frames: Vec<Frame>,
     /// The same run with masks 0, by the proved program.
     pub without_faults: Vec<Frame>,
-    pub faults: Vec<Knock>,
+    pub faults: Vec<Fault>,
     /// What ended it before its end.
     pub refusal: Option<Refusal>,
 }

@@ -71,7 +71,7 @@ fn print(bytes: &[u8]) -> Outcome<()> {
     let mut out = io::stdout().lock();
     match out.write_all(bytes).and_then(|()| out.flush()) {
         Err(error) if error.kind() != ErrorKind::BrokenPipe => {
-            Err(Stop::Missing(format!("the output cannot be written ({error}); it is not whole")))
+            Err(Stop::Unable(format!("the output cannot be written ({error}); it is not whole")))
         }
         _ => Ok(()),
     }
@@ -143,7 +143,7 @@ impl Tool {
     fn text(&self, path: &str, run: Option<&str>) -> Outcome<()> {
         let plan = folder::plan(Path::new(path))?;
         if plan.is_named {
-            return Err(Stop::Missing(format!(
+            return Err(Stop::Unable(format!(
                 "{} is a named plan already; ./ragbasalt plan gives its text",
                 plan.file
             )));
@@ -185,7 +185,7 @@ impl Tool {
             let place = place.map_or_else(|| folder.join("picture.svg"), PathBuf::from);
             let shown = place.display();
             fs::write(&place, picture).map_err(|error| {
-                Stop::Missing(format!(
+                Stop::Unable(format!(
                     "{shown} cannot be written ({error}); name another file behind the folder"
                 ))
             })?;
@@ -201,10 +201,7 @@ impl Tool {
         }
         let listing = self.programs.output_on("histories", &[(PLAN, &plan.text)])?;
         print(&listing)?;
-        // A history's line is as long as a refusal's. The first history is all 0, and a refusal's
-        // number never is.
-        let refused = refusal(&listing).filter(|refused| refused.number > 0 && listing.len() == 13);
-        unless_refused(refused.map(|refused| plan.report(refused)))
+        unless_refused(refusal(&listing).map(|refused| plan.report(refused)))
     }
 
     fn library(&self) -> Outcome<()> {
@@ -256,7 +253,7 @@ impl Tool {
                 } else {
                     "is neither a verb nor a folder"
                 };
-                Err(Stop::Missing(format!("'{first}' {what}; ./ragbasalt help lists the verbs")))
+                Err(Stop::Unable(format!("'{first}' {what}; ./ragbasalt help lists the verbs")))
             }
         }
     }
@@ -269,7 +266,7 @@ fn is_verb(word: &str) -> bool {
 fn form(verb: &str) -> Outcome<()> {
     let found = VERBS.iter().find(|(form, _)| form.split(' ').next() == Some(verb));
     let form = found.map_or(verb, |(form, _)| form);
-    Err(Stop::Missing(format!("the form is: ./ragbasalt {form}")))
+    Err(Stop::Unable(format!("the form is: ./ragbasalt {form}")))
 }
 
 /// A report of a refusal, if there is one, is what the verb ends with.
@@ -293,7 +290,7 @@ fn main() -> ExitCode {
             let _ = io::stderr().write_all(report.as_bytes());
             ExitCode::from(1)
         }
-        Err(Stop::Missing(what)) => {
+        Err(Stop::Unable(what)) => {
             say(&what);
             ExitCode::from(2)
         }

@@ -2,10 +2,12 @@
 //! them. docs/NAMED.md has the grammar. Only what cannot be written as a plan text is an error
 //! here; everything else is for the proved program to accept or refuse.
 
+use std::collections::BTreeMap;
+
 use super::names::Names;
 use super::pattern;
 use super::text::{self, is_task, Row};
-use super::words::{declare, fault, find, is_name, is_number, small, value, words, Fault};
+use super::words::{declare, find, is_name, is_number, mistake, small, value, words, Mistake};
 
 /// A word and its line.
 type Place = (usize, String);
@@ -25,7 +27,8 @@ pub struct Named {
 /// The words that a line other than a frame's begins with.
 pub const KEYWORDS: [&str; 5] = ["nodes", "frames", "sensors", "cell", "actuator"];
 
-const FRAMES: &str = "1 to 16";
+/// How many frames, and how many sensors, a plan has.
+const UP_TO_16: &str = "1 to 16";
 
 /// What has been read so far of a named plan.
 #[derive(Default)]
@@ -52,18 +55,18 @@ fn once<'a>(
     line: usize,
     word: &'a str,
     what: &str,
-) -> Result<(), Fault> {
+) -> Result<(), Mistake> {
     match slot.replace((line, word)) {
-        Some((before, _)) => fault(line, what, format!("line {before} has the {what} already")),
+        Some((before, _)) => mistake(line, what, format!("line {before} has the {what} already")),
         None => Ok(()),
     }
 }
 
 impl<'a> Reader<'a> {
     /// `frames 2` or `frames read print`
-    fn counted(&mut self, line: usize, what: &'a str, rest: &[&'a str]) -> Result<(), Fault> {
+    fn counted(&mut self, line: usize, what: &'a str, rest: &[&'a str]) -> Result<(), Mistake> {
         let Some(&first) = rest.first() else {
-            return fault(line, what, format!("how many {what}, or their names, have to follow"));
+            return mistake(line, what, format!("how many {what}, or their names, have to follow"));
         };
         let (list, slot, letter) = match what {
             "frames" => (&mut self.names.frames, &mut self.frames, ""),
@@ -72,7 +75,7 @@ impl<'a> Reader<'a> {
         once(slot, line, first, what)?;
         match rest {
             [count] if !is_name(count) => {
-                let count = small(line, count, &format!("the number of {what}"), FRAMES)?;
+                let count = small(line, count, &format!("the number of {what}"), UP_TO_16)?;
                 list.extend((0..count).map(|number| format!("{letter}{number}")));
                 Ok(())
             }
@@ -81,13 +84,13 @@ impl<'a> Reader<'a> {
     }
 
     /// `cell a b c = 1`
-    fn cell(&mut self, line: usize, rest: &[&'a str]) -> Result<(), Fault> {
+    fn cell(&mut self, line: usize, rest: &[&'a str]) -> Result<(), Mistake> {
         let (names, word) = match rest {
             [names @ .., "=", word] => (names, *word),
             names => (names, "0"),
         };
         if names.is_empty() || names.contains(&"=") || word == "=" {
-            return fault(line, "cell", "the form is: cell NAME .. = VALUE, or without = VALUE");
+            return mistake(line, "cell", "the form is: cell NAME .. = VALUE, or without = VALUE");
         }
         let initial = value(line, word)?;
         declare(&mut self.names.cells, line, names, "cell")?;
@@ -95,7 +98,7 @@ impl<'a> Reader<'a> {
         Ok(())
     }
 
-    fn line(&mut self, line: usize, words: Vec<&'a str>) -> Result<(), Fault> {
+    fn line(&mut self, line: usize, words: Vec<&'a str>) -> Result<(), Mistake> {
         match words[..] {
             [] => Ok(()),
             [frame, ":", ..] => {
@@ -103,7 +106,7 @@ impl<'a> Reader<'a> {
                 Ok(())
             }
             ["nodes", count] => once(&mut self.nodes, line, count, "nodes"),
-            ["nodes", ..] => fault(line, "nodes", "the form is: nodes NUMBER"),
+            ["nodes", ..] => mistake(line, "nodes", "the form is: nodes NUMBER"),
             [what @ ("frames" | "sensors"), ref rest @ ..] => self.counted(line, what, rest),
             ["cell", ref rest @ ..] => self.cell(line, rest),
             ["actuator", name, "=", cell] => {
@@ -111,16 +114,16 @@ impl<'a> Reader<'a> {
                 self.actuators.push((line, name, cell));
                 Ok(())
             }
-            ["actuator", ..] => fault(line, "actuator", "the form is: actuator NAME = CELL"),
+            ["actuator", ..] => mistake(line, "actuator", "the form is: actuator NAME = CELL"),
             [first, ..] => {
                 let says =
                     format!("a line begins with {}, or a frame and a colon", KEYWORDS.join(", "));
-                fault(line, first, says)
+                mistake(line, first, says)
             }
         }
     }
 
-    fn frame(&self, line: usize, word: &str) -> Result<u64, Fault> {
+    fn frame(&self, line: usize, word: &str) -> Result<u64, Mistake> {
         match is_number(word) {
             true => small(line, word, "a frame's number", "from 0 on"),
             false => find(&self.names.frames, line, word, "frame"),
@@ -128,7 +131,7 @@ impl<'a> Reader<'a> {
     }
 
     /// The row of `frame: target = sum a b` and its words.
-    fn task(&self, line: usize, frame: &str, words: &[&str]) -> Result<(Row, Source), Fault> {
+    fn task(&self, line: usize, frame: &str, words: &[&str]) -> Result<(Row, Source), Mistake> {
         let (target, rest) = (words[0], &words[2..]);
         let cell = |word: &str| find(&self.names.cells, line, word, "cell");
         let sensor = |word: &str| find(&self.names.sensors, line, word, "sensor");
@@ -150,29 +153,29 @@ impl<'a> Reader<'a> {
         Ok((row, source(line, [rest[0], frame, target, meant[0], meant[1], meant[2]])))
     }
 
-    /// The rows of `frame: vote a b`, which are not among those before.
+    /// The rows of `frame: vote a b`, which are not among those before, and their lines.
     fn votes(
         &self,
         line: usize,
         frame: &str,
         cells: &[&str],
-        votes: &mut Vec<(Row, Source)>,
-    ) -> Result<(), Fault> {
+        votes: &mut BTreeMap<Row, Source>,
+    ) -> Result<(), Mistake> {
         for word in cells {
             let cell = find(&self.names.cells, line, word, "cell")?;
             let row = [text::VOTE, self.frame(line, frame)?, cell, 0, 0, 0];
-            if let Some((_, before)) = votes.iter().find(|(before, _)| *before == row) {
-                return fault(line, word, format!("line {} has this vote already", before[0].0));
+            let words = source(line, ["vote", frame, word, "", "", ""]);
+            if let Some(before) = votes.insert(row, words) {
+                return mistake(line, word, format!("line {} has this vote already", before[0].0));
             }
-            votes.push((row, source(line, ["vote", frame, word, "", "", ""])));
         }
         Ok(())
     }
 
     /// The rows of the tasks, in frames not falling and otherwise as they stand, and those of the
     /// votes, rising.
-    fn steps(&self) -> Result<Vec<(Row, Source)>, Fault> {
-        let (mut tasks, mut votes) = (Vec::new(), Vec::new());
+    fn steps(&self) -> Result<Vec<(Row, Source)>, Mistake> {
+        let (mut tasks, mut votes) = (Vec::new(), BTreeMap::new());
         for (line, frame, rest) in &self.steps {
             match rest[..] {
                 [_, "=", ..] => tasks.push(self.task(*line, frame, rest)?),
@@ -181,7 +184,7 @@ impl<'a> Reader<'a> {
                 }
                 _ => {
                     let word = rest.first().unwrap_or(frame);
-                    return fault(
+                    return mistake(
                         *line,
                         word,
                         "behind a frame stands CELL = TASK, or vote CELL ..",
@@ -190,18 +193,17 @@ impl<'a> Reader<'a> {
             }
         }
         tasks.sort_by_key(|(row, _)| row[1]);
-        votes.sort_by_key(|(row, _)| *row);
-        tasks.append(&mut votes);
+        tasks.extend(votes);
         Ok(tasks)
     }
 
     /// The header's row: counts, and where each was told; cells and actuators by their last.
-    fn header(&self) -> Result<(Row, Source), Fault> {
+    fn header(&self) -> Result<(Row, Source), Mistake> {
         let keyword = |frame: &str| {
             KEYWORDS.contains(&frame) && !self.names.frames.iter().any(|name| name == frame)
         };
         if let Some((line, word, _)) = self.steps.iter().find(|(_, frame, _)| keyword(frame)) {
-            return fault(
+            return mistake(
                 *line,
                 word,
                 "no colon stands behind this word, unless a frame is called so",
@@ -219,7 +221,7 @@ impl<'a> Reader<'a> {
         let mut places = vec![(0, String::new())];
         for (place, what, example) in told {
             let Some((line, word)) = place else {
-                return fault(
+                return mistake(
                     0,
                     "",
                     format!("the {what} are missing; write for example: {example}"),
@@ -236,7 +238,7 @@ impl<'a> Reader<'a> {
     }
 }
 
-fn task_form(line: usize, rest: &[&str]) -> Fault {
+fn task_form(line: usize, rest: &[&str]) -> Mistake {
     let says = match rest.first() {
         Some(&"take") => "the form is: take SENSOR",
         Some(&"sum") => "the form is: sum CELL CELL",
@@ -247,7 +249,7 @@ fn task_form(line: usize, rest: &[&str]) -> Fault {
         Some(&"cam") => "the form is: cam CELL",
         _ => "a task is take, sum, diff, scale, limit, wind or cam",
     };
-    Fault { line, word: rest.first().copied().unwrap_or("=").into(), says: says.into() }
+    Mistake { line, word: rest.first().copied().unwrap_or("=").into(), says: says.into() }
 }
 
 /// The comment in the first line.
@@ -256,7 +258,7 @@ fn title(file: &str) -> Option<String> {
     (!title.is_empty()).then(|| String::from(title))
 }
 
-pub fn read(file: &str) -> Result<Named, Fault> {
+pub fn read(file: &str) -> Result<Named, Mistake> {
     let mut reader = Reader::default();
     for (index, line) in file.lines().enumerate() {
         reader.line(index + 1, words(line))?;
@@ -284,7 +286,7 @@ pub fn begins(file: &str) -> bool {
         let first = words(line);
         line.trim_start().starts_with('#')
             || first.first().is_some_and(|word| KEYWORDS.contains(word))
-            || first.get(1) == Some(&":")
+            || (first.get(1) == Some(&":") && is_name(first[0]))
     })
 }
 

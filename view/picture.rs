@@ -118,12 +118,16 @@ struct Scale {
 
 impl Scale {
     /// From the values without faults; those with faults count as far as they lie within twice that
-    /// range on either side, or as far from it as it is from 0. So one wild value leaves the others
-    /// to be seen.
+    /// range on either side, or as far from it as it is from 0, so that one wild value leaves the
+    /// others to be seen. Where all without faults are 0 there is nothing to measure them by, and
+    /// all count.
     fn of(quiet: &[f64], own: &[f64], top: f64, height: f64) -> Scale {
         let (low, high) = ends(finite(quiet)).or(ends(finite(own))).unwrap_or((0.0, 0.0));
         // By halves, as the whole of a range may be beyond the largest value.
-        let reach = (4.0 * (high / 2.0 - low / 2.0)).max(low.abs()).max(high.abs());
+        let reach = match (low, high) == (0.0, 0.0) {
+            true => f64::INFINITY,
+            false => (4.0 * (high / 2.0 - low / 2.0)).max(low.abs()).max(high.abs()),
+        };
         let near = finite(own).filter(|&value| value >= low - reach && value <= high + reach);
         let (low, high) = ends(near.chain([low, high])).unwrap_or((low, high));
         let room = match (high > low, high == 0.0) {
@@ -136,8 +140,12 @@ impl Scale {
 
     /// The height at which a value of the range stands; what is beyond it, at its edge.
     fn y(&self, value: f64) -> f64 {
-        let whole = self.high / 2.0 - self.low / 2.0;
-        let share = (value.clamp(self.low, self.high) / 2.0 - self.low / 2.0) / whole;
+        let value = value.clamp(self.low, self.high);
+        let range = self.high - self.low;
+        let share = match range.is_finite() {
+            true => (value - self.low) / range,
+            false => (value / 2.0 - self.low / 2.0) / (self.high / 2.0 - self.low / 2.0),
+        };
         self.top + self.height * (1.0 - if share.is_finite() { share } else { 0.5 })
     }
 
@@ -145,16 +153,19 @@ impl Scale {
         value >= self.low && value <= self.high
     }
 
-    /// Round numbers within the range, three to six of them.
+    /// Round numbers within the range, two to six of them; of a range too narrow for any, its low end.
     fn ticks(&self) -> Vec<f64> {
         let rough = self.high / 4.0 - self.low / 4.0;
         let power = 10f64.powf(rough.log10().floor());
         let steps = [1.0, 2.0, 2.5, 5.0, 10.0].map(|digit| digit * power);
         let step = steps.into_iter().find(|&step| step >= rough && step.is_normal());
-        let Some(step) = step else { return vec![self.low, self.high] };
+        let Some(step) = step else { return vec![self.low] };
         let first = (self.low / step).ceil();
         let ticks = (0..8).map(|index| (first + f64::from(index)) * step);
-        ticks.filter(|&value| self.has(value)).map(|value| rounded(value, step)).collect()
+        let mut ticks: Vec<f64> =
+            ticks.map(|value| rounded(value, step)).filter(|&value| self.has(value)).collect();
+        ticks.dedup();
+        ticks
     }
 }
 
@@ -162,16 +173,20 @@ impl Scale {
 fn rounded(value: f64, step: f64) -> f64 {
     match value.abs() < step / 2.0 {
         true => 0.0,
-        false => format!("{value:.12e}").parse().unwrap_or(value),
+        false => {
+            let digits = (value.abs() / step).log10().ceil().clamp(1.0, 15.0) as usize + 1;
+            format!("{value:.digits$e}").parse().unwrap_or(value)
+        }
     }
 }
 
-/// A number beside an axis, where there is room for nine letters.
+/// A number beside an axis, in its shorter form.
 fn label(value: f64) -> String {
-    let text = decimal(value);
-    match text.len() <= 9 {
-        true => text,
-        false => format!("{value:.2e}"),
+    let (plain, exponent) = (decimal(value), format!("{value:e}"));
+    if plain.len() > 9 && exponent.len() < plain.len() {
+        exponent
+    } else {
+        plain
     }
 }
 
@@ -241,10 +256,10 @@ impl Picture<'_> {
         self.out += &format!("<{name} class=\"{class}\"{}/>\n", attributes.collect::<String>());
     }
 
-    /// The rectangle of some columns; one that is thin is still seen.
+    /// The rectangle of some columns.
     fn rect(&mut self, class: &str, columns: (usize, usize), top: f64, height: f64) {
         let (from, to) = (self.columns.x(columns.0), self.columns.x(columns.1 + 1));
-        let width = (to - from).max(0.8);
+        let width = to - from;
         self.element(
             "rect",
             class,

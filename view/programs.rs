@@ -13,17 +13,17 @@ use std::time::SystemTime;
 use super::cause::Refusal;
 
 /// Something is not as it has to be for the verb: one line that says what, and what to do.
-pub struct Missing(pub String);
+pub struct Unable(pub String);
 
-pub type Found<T> = Result<T, Missing>;
+pub type Found<T> = Result<T, Unable>;
 
 /// A line for the person at the terminal; where it cannot be written nothing is lost.
 pub fn say(words: &str) {
     let _ = writeln!(std::io::stderr(), "ragbasalt: {words}");
 }
 
-pub fn missing<T>(says: impl Into<String>) -> Found<T> {
-    Err(Missing(says.into()))
+pub fn unable<T>(says: impl Into<String>) -> Found<T> {
+    Err(Unable(says.into()))
 }
 
 /// What a proved program gives for a plan.
@@ -129,7 +129,7 @@ impl Programs {
     fn prove(&self, verb: &str, names: &[&str]) -> Found<()> {
         let count = self.crates(names).len();
         let cannot = |what: String| {
-            Missing(format!("{what}; the programs are proved and built by rt, the command of the Rattle toolchain"))
+            Unable(format!("{what}; the programs are proved and built by rt, the command of the Rattle toolchain"))
         };
         fs::create_dir_all(self.root.join("target"))
             .map_err(|error| cannot(format!("target/ cannot be made: {error}")))?;
@@ -164,8 +164,8 @@ impl Programs {
         match (ended.code(), failed) {
             (Some(0), _) => Ok(()),
             (Some(127), _) => Err(cannot(String::from("rt is not here"))),
-            (_, Some(name)) => missing(format!("{name} is not proved; {LOG} has why")),
-            (_, None) => missing(format!("rt {verb} failed; {LOG} has why")),
+            (_, Some(name)) => unable(format!("{name} is not proved; {LOG} has why")),
+            (_, None) => unable(format!("rt {verb} failed; {LOG} has why")),
         }
     }
 
@@ -177,13 +177,14 @@ impl Programs {
             return Ok(());
         }
         say("proving and building the program; from nothing this takes some minutes");
-        self.prove("check", names)?;
-        // rt leaves a program alone whose sources are the same though newer.
         let now = SystemTime::now();
+        self.prove("check", names)?;
+        // rt leaves a program alone whose sources are the same though newer. A source that was saved
+        // meanwhile is newer still.
         for name in names {
             let touched = fs::File::open(self.path(name)).and_then(|file| file.set_modified(now));
             touched
-                .map_err(|error| Missing(format!("target/bin/{name} cannot be opened: {error}")))?;
+                .map_err(|error| Unable(format!("target/bin/{name} cannot be opened: {error}")))?;
         }
         Ok(())
     }
@@ -201,7 +202,7 @@ impl Programs {
     pub fn output(&self, name: &str, folder: &Path) -> Found<Vec<u8>> {
         self.build(&[name])?;
         let cannot = |what: String| {
-            Missing(format!("target/bin/{name} {what}; take it away, and it is built anew"))
+            Unable(format!("target/bin/{name} {what}; take it away, and it is built anew"))
         };
         let output = Command::new(self.path(name))
             .current_dir(folder)
@@ -223,7 +224,7 @@ impl Programs {
         });
         let output = match written {
             Ok(()) => self.output(name, &folder),
-            Err(error) => missing(format!("{} cannot be written: {error}", folder.display())),
+            Err(error) => unable(format!("{} cannot be written: {error}", folder.display())),
         };
         let _ = fs::remove_dir_all(&folder);
         output
@@ -238,15 +239,16 @@ impl Programs {
         let text = String::from_utf8_lossy(&output);
         match text.trim().parse() {
             Ok(period) => Ok(Checked::Accepted(period)),
-            Err(_) => missing(
-                "target/bin/plan_check prints no number; take it away, and it is built anew",
-            ),
+            Err(_) => {
+                unable("target/bin/plan_check prints no number; take it away, and it is built anew")
+            }
         }
     }
 }
 
-/// The refusal that a listing ends with, if it does. "A refusal prints number (4) and line (8)":
-/// no other line has this length.
+/// The refusal that a listing ends with, if it does. "A refusal prints number (4) and line (8)". A
+/// frame's line and that of R have another length; a history's has the same, and two numbers where
+/// a refusal has its line.
 pub fn refusal(listing: &[u8]) -> Option<Refusal> {
     let line = listing.strip_suffix(b"\n")?;
     let line = line.rsplit(|&byte| byte == b'\n').next()?;

@@ -7,7 +7,7 @@ use super::cause::run_line;
 use super::names::Names;
 use super::pattern;
 use super::text::{number, push, Row};
-use super::words::{fault, find, is_number, small, value, words, Fault};
+use super::words::{find, is_number, mistake, small, value, words, Mistake};
 
 /// "10: .. or line 100,001"
 pub const MOST: usize = 100_000;
@@ -84,27 +84,30 @@ fn upto<'w, 'l>(words: &'l [&'w str]) -> (&'l [&'w str], &'l [&'w str]) {
 }
 
 /// `fill 7` or `silent`, if it stands there, and the words behind it.
-fn fill<'w, 'l>(line: usize, words: &'l [&'w str]) -> Result<(Option<Fill>, &'l [&'w str]), Fault> {
+fn fill<'w, 'l>(
+    line: usize,
+    words: &'l [&'w str],
+) -> Result<(Option<Fill>, &'l [&'w str]), Mistake> {
     let told = |fill: u64, word: &str| Some((fill, (line, String::from(word))));
     match *words {
         ["silent", ref rest @ ..] => Ok((told(SILENT, "silent"), rest)),
         ["fill", word, ref rest @ ..] => {
             Ok((told(small(line, word, "a fill", "0 to 255")?, word), rest))
         }
-        ["fill"] => fault(line, "fill", "a number from 0 to 255 has to follow"),
+        ["fill"] => mistake(line, "fill", "a number from 0 to 255 has to follow"),
         _ => Ok((None, words)),
     }
 }
 
 /// `times 5`, if it stands there, and the words behind it.
-fn times<'w, 'l>(line: usize, words: &'l [&'w str]) -> Result<(usize, &'l [&'w str]), Fault> {
+fn times<'w, 'l>(line: usize, words: &'l [&'w str]) -> Result<(usize, &'l [&'w str]), Mistake> {
     let says = "how many frames are alike is a whole number, 1 to 100000";
     match *words {
         ["times", word, ref rest @ ..] => match word.parse() {
             Ok(count) if is_number(word) && (1..=MOST).contains(&count) => Ok((count, rest)),
-            _ => fault(line, word, says),
+            _ => mistake(line, word, says),
         },
-        ["times"] => fault(line, "times", says),
+        ["times"] => mistake(line, "times", says),
         _ => Ok((1, words)),
     }
 }
@@ -115,11 +118,11 @@ impl Reader<'_> {
         &self,
         line: usize,
         words: &'l [&'w str],
-    ) -> Result<(u64, &'l [&'w str]), Fault> {
+    ) -> Result<(u64, &'l [&'w str]), Mistake> {
         let ["bad", ref rest @ ..] = *words else { return Ok((0, words)) };
         let (nodes, rest) = upto(rest);
         if nodes.is_empty() {
-            return fault(line, "bad", "the numbers of the bad nodes have to follow");
+            return mistake(line, "bad", "the numbers of the bad nodes have to follow");
         }
         let limits = match self.nodes {
             1 => String::from("0 alone"),
@@ -129,43 +132,43 @@ impl Reader<'_> {
         for word in nodes {
             let node = small(line, word, "a node", &limits)?;
             if node >= self.nodes {
-                return fault(
+                return mistake(
                     line,
                     word,
                     format!("the plan has no such node; its nodes are {limits}"),
                 );
             }
             if mask >> node & 1 == 1 {
-                return fault(line, word, "this node stands there already");
+                return mistake(line, word, "this node stands there already");
             }
             mask |= 1 << node;
         }
         Ok((mask, rest))
     }
 
-    fn frame(&mut self, line: usize, words: &[&str]) -> Result<(), Fault> {
+    fn frame(&mut self, line: usize, words: &[&str]) -> Result<(), Mistake> {
         let (values, rest) = upto(words);
         let mut patterns = vec![0; self.order.len()];
         for (index, word) in values.iter().enumerate() {
             let pattern = value(line, word)?;
             match self.order.get(index) {
                 Some(&sensor) => patterns[sensor] = pattern,
-                None => return fault(line, word, self.count(values.len())),
+                None => return mistake(line, word, self.count(values.len())),
             }
         }
         if values.len() < self.order.len() {
             let word = rest.first().or(values.last()).unwrap_or(&"");
-            return fault(line, word, self.count(values.len()));
+            return mistake(line, word, self.count(values.len()));
         }
         let (mask, rest) = self.mask(line, rest)?;
         let (told, rest) = fill(line, rest)?;
         let (times, rest) = times(line, rest)?;
         if let Some(word) = rest.first() {
             let says = "behind the values stand, in this order: bad NODES, fill NUMBER or silent, times COUNT";
-            return fault(line, word, says);
+            return mistake(line, word, says);
         }
         if self.run.lines.len() + times > MOST {
-            return fault(line, words[0], "a run has at most 100,000 frames");
+            return mistake(line, words[0], "a run has at most 100,000 frames");
         }
         let (fill, place) = told.unwrap_or_else(|| self.fill.clone());
         let numbers: Line = [mask, fill].into_iter().chain(patterns).collect();
@@ -185,23 +188,23 @@ impl Reader<'_> {
     }
 
     /// `sensors speed cyan`: the order of the values from here on.
-    fn sensors(&mut self, line: usize, words: &[&str]) -> Result<(), Fault> {
+    fn sensors(&mut self, line: usize, words: &[&str]) -> Result<(), Mistake> {
         let mut order = Vec::new();
         for word in words {
             let sensor = find(&self.names.sensors, line, word, "sensor")? as usize;
             if order.contains(&sensor) {
-                return fault(line, word, "this sensor stands there already");
+                return mistake(line, word, "this sensor stands there already");
             }
             order.push(sensor);
         }
         if let Some(left) = (0..self.names.sensors.len()).find(|sensor| !order.contains(sensor)) {
-            return fault(line, "sensors", format!("'{}' is missing", self.names.sensors[left]));
+            return mistake(line, "sensors", format!("'{}' is missing", self.names.sensors[left]));
         }
         self.order = order;
         Ok(())
     }
 
-    fn line(&mut self, line: usize, words: &[&str]) -> Result<(), Fault> {
+    fn line(&mut self, line: usize, words: &[&str]) -> Result<(), Mistake> {
         match words {
             [] => Ok(()),
             ["sensors", names @ ..] => self.sensors(line, names),
@@ -210,15 +213,15 @@ impl Reader<'_> {
                     self.fill = told;
                     Ok(())
                 }
-                (_, rest) => fault(line, rest[0], "nothing more stands in this line"),
+                (_, rest) => mistake(line, rest[0], "nothing more stands in this line"),
             },
-            ["bad" | "times", ..] => fault(line, words[0], "the sensors' values come first"),
+            ["bad" | "times", ..] => mistake(line, words[0], "the sensors' values come first"),
             _ => self.frame(line, words),
         }
     }
 }
 
-pub fn read(file: &str, header: &Row, names: &Names) -> Result<NamedRun, Fault> {
+pub fn read(file: &str, header: &Row, names: &Names) -> Result<NamedRun, Mistake> {
     let mut reader = Reader {
         names,
         nodes: header[1],

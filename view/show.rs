@@ -4,7 +4,7 @@ use std::ops::RangeInclusive;
 
 use super::listing::{Run, State};
 use super::names::Names;
-use super::pattern::{decimal, shown};
+use super::pattern::shown;
 use super::runs::nodes;
 use super::text::Row;
 
@@ -97,14 +97,16 @@ fn setpoint(run: &Run, frames: &RangeInclusive<usize>, actuator: usize) -> Strin
         return shown(first);
     }
     let values = || patterns().map(f64::from_bits).filter(|value| !value.is_nan());
-    let round = |value: f64| match value.is_finite() {
-        true => decimal(format!("{value:.3e}").parse().unwrap_or(value)),
-        false => shown(value.to_bits()),
-    };
     let (least, greatest) = (values().reduce(f64::min), values().reduce(f64::max));
-    let ends = least
-        .zip(greatest)
-        .map(|(least, greatest)| format!("{}..{}", round(least), round(greatest)));
+    let ends = least.zip(greatest).map(|(least, greatest)| {
+        // Four digits, where that moves a value by less than a thousandth of the range.
+        let round = |value: f64| {
+            let four: f64 = format!("{value:.3e}").parse().unwrap_or(value);
+            let is_near = (four - value).abs() <= (greatest - least) / 1000.0;
+            shown(if is_near { four } else { value }.to_bits())
+        };
+        format!("{}..{}", round(least), round(greatest))
+    });
     let gaps =
         patterns().any(|pattern| f64::from_bits(pattern).is_nan()).then(|| String::from("NaN"));
     [ends, gaps].into_iter().flatten().collect::<Vec<_>>().join(",")
@@ -164,7 +166,7 @@ fn legend(run: &Run, shared: bool) -> String {
         out += "*: not what a press without faults gets (the same run with nobody bad, by the proved program)\n";
     }
     if shared {
-        out += "a row of several frames: nodes, counts and marks are the same in all, setpoints from least to greatest; --all shows each\n";
+        out += "a row of several frames: nodes, counts and marks are the same in all, setpoints from least to greatest, to four digits where these tell them apart; --all shows each\n";
     }
     out
 }

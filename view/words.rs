@@ -4,18 +4,19 @@ use super::pattern;
 
 /// An error of a named file: its line from 1 (0: the whole file), the word meant, what is wrong.
 #[derive(Debug, PartialEq, Eq)]
-pub struct Fault {
+pub struct Mistake {
     pub line: usize,
     pub word: String,
     pub says: String,
 }
 
-impl Fault {
+impl Mistake {
     pub fn report(&self, file: &str) -> String {
         match (self.line, self.word.as_str()) {
             (0, _) => format!("{file}: {}\n", self.says),
             (line, "") => format!("{file}:{line}: {}\n", self.says),
-            (line, word) => format!("{file}:{line}: '{word}': {}\n", self.says),
+            // A word as it is, but for letters that a terminal would act on.
+            (line, word) => format!("{file}:{line}: '{}': {}\n", word.escape_debug(), self.says),
         }
     }
 }
@@ -23,8 +24,8 @@ impl Fault {
 /// The largest number that a column of width 4 shows.
 const MOST: usize = 9999;
 
-pub fn fault<T>(line: usize, word: &str, says: impl Into<String>) -> Result<T, Fault> {
-    Err(Fault { line, word: String::from(word), says: says.into() })
+pub fn mistake<T>(line: usize, word: &str, says: impl Into<String>) -> Result<T, Mistake> {
+    Err(Mistake { line, word: String::from(word), says: says.into() })
 }
 
 /// The words of a line, `:` and `=` by themselves, without its comment.
@@ -54,15 +55,15 @@ pub fn is_number(word: &str) -> bool {
 }
 
 /// A whole number that has room in a column of width 4; `limits` tells what the plan allows.
-pub fn small(line: usize, word: &str, what: &str, limits: &str) -> Result<u64, Fault> {
+pub fn small(line: usize, word: &str, what: &str, limits: &str) -> Result<u64, Mistake> {
     match word.parse::<u64>() {
         Ok(number) if is_number(word) && number <= MOST as u64 => Ok(number),
-        _ => fault(line, word, format!("{what} is a whole number, {limits}")),
+        _ => mistake(line, word, format!("{what} is a whole number, {limits}")),
     }
 }
 
-pub fn value(line: usize, word: &str) -> Result<u64, Fault> {
-    pattern::read(word).or_else(|says| fault(line, word, says))
+pub fn value(line: usize, word: &str) -> Result<u64, Mistake> {
+    pattern::read(word).or_else(|says| mistake(line, word, says))
 }
 
 /// Declares names, which have to be new in their list.
@@ -71,18 +72,18 @@ pub fn declare(
     line: usize,
     words: &[&str],
     what: &str,
-) -> Result<(), Fault> {
+) -> Result<(), Mistake> {
     for &word in words {
         if !is_name(word) {
             let says =
                 "a name begins with a letter or _, and has letters, digits, _, - and . in it";
-            return fault(line, word, says);
+            return mistake(line, word, says);
         }
         if list.iter().any(|name| name == word) {
-            return fault(line, word, format!("another {what} has this name already"));
+            return mistake(line, word, format!("another {what} has this name already"));
         }
         if list.len() == MOST {
-            return fault(line, word, format!("a plan has not so many {what}s"));
+            return mistake(line, word, format!("a plan has not so many {what}s"));
         }
         list.push(String::from(word));
     }
@@ -106,7 +107,7 @@ fn distance(left: &str, right: &str) -> usize {
 }
 
 /// The place of a name in a list; of a name that is not there the nearest is told.
-pub fn find(names: &[String], line: usize, word: &str, what: &str) -> Result<u64, Fault> {
+pub fn find(names: &[String], line: usize, word: &str, what: &str) -> Result<u64, Mistake> {
     if let Some(index) = names.iter().position(|name| name == word) {
         return Ok(index as u64);
     }
@@ -119,5 +120,5 @@ pub fn find(names: &[String], line: usize, word: &str, what: &str) -> Result<u64
         _ if names.len() <= 16 => format!("; the {what}s are {}", names.join(" ")),
         _ => String::new(),
     };
-    fault(line, word, format!("no {what} has this name{hint}"))
+    mistake(line, word, format!("no {what} has this name{hint}"))
 }

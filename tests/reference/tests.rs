@@ -5,6 +5,7 @@ use std::collections::{BTreeMap, BTreeSet};
 
 use super::calls;
 use super::cases::{case, class_of, histories_case, CLASSES, HISTORIES_CLASSES};
+use super::check;
 use super::frame::{
     cam, cam_entry, fault_length, limit, message_length, plane, task_result, Memory, System,
 };
@@ -1186,10 +1187,43 @@ fn within_the_premise_the_system_is_the_single_controller() {
 /// was bad does not work again within three frames, and at most one node is ever bad: none, or one
 /// of three in one or more of three frames, 1 + 3 x 7.
 #[rustfmt::skip]
+/// What is printed for a plan text by hand: rows 1, 2 and 4 of the short table, and a refusal with
+/// its line.
+#[test]
+fn a_plan_checked() {
+    let text = |rows: &[Row]| String::from_utf8(check::text(&plan_text(rows)).bytes).unwrap();
+    assert_eq!(text(&K), "   3\n");
+    let without_vote: Vec<Row> = K.into_iter().filter(|row| row[0] != 20).collect();
+    assert_eq!(text(&without_vote), "   6       0\n");
+    let take = [[0, 3, 1, 1, 1, 1], [1, 0, 0, 0, 0, 0], [10, 0, 0, 0, 0, 0], [30, 0, 0, 0, 0, 0]];
+    assert_eq!(text(&take), "   2\n");
+    assert_eq!(text(&K[..6]), "   4       7\n");
+    assert_eq!(text(&[]), "   1       0\n");
+}
+
 const K_HISTORIES: [[u8; 3]; 22] = [
-    [0, 0, 0], [0, 0, 1], [0, 0, 2], [0, 0, 4], [0, 1, 0], [0, 1, 1], [0, 2, 0], [0, 2, 2],
-    [0, 4, 0], [0, 4, 4], [1, 0, 0], [1, 0, 1], [1, 1, 0], [1, 1, 1], [2, 0, 0], [2, 0, 2],
-    [2, 2, 0], [2, 2, 2], [4, 0, 0], [4, 0, 4], [4, 4, 0], [4, 4, 4],
+    [0, 0, 0],
+    [0, 0, 1],
+    [0, 0, 2],
+    [0, 0, 4],
+    [0, 1, 0],
+    [0, 1, 1],
+    [0, 2, 0],
+    [0, 2, 2],
+    [0, 4, 0],
+    [0, 4, 4],
+    [1, 0, 0],
+    [1, 0, 1],
+    [1, 1, 0],
+    [1, 1, 1],
+    [2, 0, 0],
+    [2, 0, 2],
+    [2, 2, 0],
+    [2, 2, 2],
+    [4, 0, 0],
+    [4, 0, 4],
+    [4, 4, 0],
+    [4, 4, 4],
 ];
 
 /// A plan with these nodes and this recovery period.

@@ -9,7 +9,7 @@ use super::view::named;
 use super::view::names::Names;
 use super::view::programs::{refusal, Checked};
 use super::view::text::{self, Row};
-use super::view::words::Fault;
+use super::view::words::Mistake;
 use super::view::{cause, pattern, runs};
 use super::{each, same, Tested, Tree};
 
@@ -322,7 +322,7 @@ fn damage(r: &Random, file: &str) -> String {
 }
 
 /// An error names a line of the file and a word in it.
-fn placed(fault: &Fault, file: &str) -> Result<(), String> {
+fn placed(fault: &Mistake, file: &str) -> Result<(), String> {
     let line = fault.line.checked_sub(1).and_then(|index| file.lines().nth(index));
     match (fault.line, line) {
         (0, _) => Ok(()),
@@ -349,7 +349,7 @@ pub fn damaged(tree: &Tree) -> Tested {
                 Err(fault) => placed(&fault, &file).map(|()| counts[0] += 1)?,
                 Ok(named) => {
                     let plan = text::text(&named.rows);
-                    match tree.programs.check(&plan).map_err(|missing| missing.0)? {
+                    match tree.programs.check(&plan).map_err(|unable| unable.0)? {
                         Checked::Accepted(_) => counts[1] += 1,
                         Checked::Refused(refused) => {
                             counts[2] += 1;
@@ -371,7 +371,7 @@ pub fn damaged(tree: &Tree) -> Tested {
                     let run = runs::text(&named.lines);
                     let listing =
                         tree.programs.output_on("run", &[("plan.txt", &bytes), ("run.txt", &run)]);
-                    if let Some(refused) = refusal(&listing.map_err(|missing| missing.0)?) {
+                    if let Some(refused) = refusal(&listing.map_err(|unable| unable.0)?) {
                         let found = cause::of_run(&rows[0], &names, &run, refused.line)
                             .map(|cause| cause.refusal);
                         same("a named run's refusal", found, Some(refused))

@@ -11,7 +11,8 @@ use super::view::names::Names;
 use super::view::{picture, runs};
 use super::{each, same, tables, Tested, Tree};
 
-/// Where the panels begin and how wide they are, and how many columns share a long run's frames.
+/// The layout, told once more so that the picture is read by itself: where the panels begin and how
+/// wide they are, and how many columns share a long run's frames.
 const LEFT: f64 = 96.0;
 const WIDTH: f64 = 840.0;
 const COLUMNS: usize = 840;
@@ -214,7 +215,7 @@ impl Axis {
     }
 
     fn y(&self, value: f64) -> f64 {
-        let share = (value / 2.0 - self.first.0 / 2.0) / (self.last.0 / 2.0 - self.first.0 / 2.0);
+        let share = (value - self.first.0) / (self.last.0 - self.first.0);
         (self.first.1 + share * (self.last.1 - self.first.1)).clamp(self.rows.0, self.rows.1)
     }
 
@@ -232,7 +233,8 @@ fn check_curve(run: &Run, d: &str, axis: &Axis, values: &[f64], what: &str) -> R
     for (from, to, y) in strokes(d) {
         let back = to < from;
         for column in covered(run, std::iter::once((from.min(to), from.max(to)))) {
-            drawn[column].push((back, y));
+            let place = drawn.get_mut(column).ok_or_else(|| format!("{what} beyond its panel"))?;
+            place.push((back, y));
         }
     }
     for (column, drawn) in drawn.iter().enumerate() {
@@ -284,14 +286,14 @@ fn check_setpoint(
     same("a note", noted, count > 0)?;
     let nan = covered(run, rects(all, "nan", (top - 0.1, top + 0.1)));
     same("bands of no number", nan, wanted(run, |frame| own[frame].is_nan()))?;
-    // Axes whose numbers do not tell values apart are for nobody to read.
+    // A range of a few neighbouring values, or beyond the largest one, has no two numbers to read by.
     let Ok(axis) = Axis::read(all, rows) else { return Ok(()) };
     let highest = axis.first.0
         + (axis.first.1 - rows.0) / (axis.first.1 - axis.last.1) * (axis.last.0 - axis.first.0);
     let lowest = axis.first.0
         - (rows.1 - axis.first.1) / (axis.first.1 - axis.last.1) * (axis.last.0 - axis.first.0);
     let (slack, range) = ((highest - lowest) * 0.01, highest - lowest);
-    if !range.is_finite() || range < highest.abs() * 1e-2 {
+    if !range.is_finite() || range < highest.abs().max(lowest.abs()) * 1e-11 {
         return Ok(());
     }
     for (class, values) in [("quiet", &quiet), ("line", &own)] {
@@ -310,8 +312,14 @@ fn check_setpoint(
     // The axis has all that a press without faults gets, what lies near it, and no more.
     let finite = || quiet.iter().copied().filter(|value| value.is_finite());
     if let Some((low, high)) = finite().reduce(f64::min).zip(finite().reduce(f64::max)) {
-        let reach = (2.0 * (high - low)).max(high.abs()).max(low.abs());
-        let near = own.iter().copied().filter(|value| (low - reach..=high + reach).contains(value));
+        let reach = match (low, high) == (0.0, 0.0) {
+            true => f64::INFINITY,
+            false => (2.0 * (high - low)).max(high.abs()).max(low.abs()),
+        };
+        let near = own
+            .iter()
+            .copied()
+            .filter(|value| value.is_finite() && (low - reach..=high + reach).contains(value));
         let (least, most) =
             near.fold((low, high), |(least, most), value| (least.min(value), most.max(value)));
         let room = ((most - least) * 0.1).max(most.abs() * 0.1).max(1.0) + slack;
@@ -372,7 +380,9 @@ fn check_nodes(run: &Run, all: &[Element]) -> Result<u64, String> {
             (_, [node, told, begin, end]) if *told as u64 == faults => (*node, *begin, *end),
             _ => return Err(format!("a mark's title: {title}")),
         };
-        let masks: Vec<u64> = run.masks[begin..=end].iter().map(|mask| mask >> node & 1).collect();
+        let told = run.masks.get(begin..=end).filter(|masks| !masks.is_empty());
+        let masks = told.ok_or_else(|| format!("a mark's title: {title}"))?;
+        let masks: Vec<u64> = masks.iter().map(|mask| mask >> node & 1).collect();
         same(title, knocks(&masks), faults)?;
         same(title, (masks[0], masks[masks.len() - 1]), (1, 1))?;
         stood += faults;
@@ -419,6 +429,11 @@ fn check(run: &Run, svg: &str) -> Result<u64, String> {
         let x = LEFT + WIDTH * (frame + 0.5) / run.frames.len() as f64;
         same("a frame's number", (tick.number("x") - x).abs() <= 0.06, true)?;
     }
+    let most = (0..columns(run)).map(|column| frames_of(run, column).len()).max().unwrap_or(0);
+    let note =
+        format!("up to {most} frames share a column; in it a node is bad if it is in one of them");
+    let noted = all.iter().any(|element| element.is("text", "small right") && element.text == note);
+    same("the note on columns", noted, most > 1)?;
     let headings: Vec<&Element> = all.iter().filter(|element| element.is("text", "head")).collect();
     same("panels", headings.len(), 2 + run.actuators())?;
     let top = headings[1].number("y") + 8.0;

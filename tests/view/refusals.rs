@@ -18,7 +18,7 @@ pub fn all(tree: &Tree) -> Tested {
         let case = case(seed);
         let plan = case.plan.unwrap_or_default();
         let found = cause::of_plan(&plan, None);
-        match tree.programs.check(&plan).map_err(|missing| missing.0)? {
+        match tree.programs.check(&plan).map_err(|unable| unable.0)? {
             Checked::Refused(refused) => {
                 same(case.class, found.as_ref().map(|cause| cause.refusal), Some(refused))?;
                 whole(&cause::report("plan.txt", refused, found.as_ref(), None))?;
@@ -38,7 +38,7 @@ pub fn all(tree: &Tree) -> Tested {
                 if case.class.contains("run damaged") {
                     let listing =
                         tree.programs.output_on("run", &[("plan.txt", &plan), ("run.txt", &run)]);
-                    let Some(refused) = refusal(&listing.map_err(|missing| missing.0)?) else {
+                    let Some(refused) = refusal(&listing.map_err(|unable| unable.0)?) else {
                         return Ok(());
                     };
                     let header = text::rows(&plan)[0];

@@ -73,9 +73,10 @@ fn frames_of(word: &str) -> Option<std::ops::RangeInclusive<usize>> {
     Some(first.parse().ok()?..=last.parse().ok()?)
 }
 
-/// A number to four digits.
-fn rounded(value: f64) -> f64 {
-    format!("{value:.3e}").parse().unwrap_or(value)
+/// A number as it is, or to four digits where that moves it by a thousandth of the range at most.
+fn is_shown(word: &str, value: f64, range: f64) -> bool {
+    let shown: f64 = word.parse().unwrap_or(f64::NAN);
+    shown == value || (shown - value).abs() <= range / 1000.0
 }
 
 /// Of a long run: every frame once, those that share a row alike in all but moving setpoints, of
@@ -127,8 +128,8 @@ fn check_short_table(run: &Run, names: &Names) -> Result<(), String> {
                 numbers().fold(f64::INFINITY, f64::min),
                 numbers().fold(f64::NEG_INFINITY, f64::max),
             );
-            same("least", least.parse().ok(), Some(rounded(low)))?;
-            same("greatest", greatest.parse().ok(), Some(rounded(high)))?;
+            same("least", is_shown(least, low, high - low), true)?;
+            same("greatest", is_shown(greatest, high, high - low), true)?;
         }
     }
     same("frames shown", due, run.frames.len()).map_err(|report| report + &table)?;

@@ -189,6 +189,14 @@ fn refused_texts(work: &Work) -> Result<(), String> {
     for verb in ["text", "show", "picture"] {
         work.refused(&[verb, &work.at("plan")], "", words)?;
     }
+    let colon =
+        work.file("colon.txt", work.example("k/plan.txt")?.replacen("   0   3", "   0  :3", 1))?;
+    let output = call(work.tree, &["check", &colon]);
+    same(
+        "a colon",
+        (output.status, output.out.contains(":1: refusal 2: nodes has ':' in it")),
+        (1, true),
+    )?;
     work.file("line/plan.txt", work.example("k/plan.txt")?)?;
     work.file("line/run.txt", work.example("k/run.txt")?.replacen("   4 255", "   8 255", 1))?;
     let words = "run.txt:2: refusal 10: mask is 8, with 3 nodes (0 to 2) a mask is 0 to 7";
@@ -301,7 +309,8 @@ fn named_folders(work: &Work) -> Result<(), String> {
         let output = call(work.tree, &[verb, &work.at("by name")]);
         let said =
             output.errors.contains("plan.named does not give plan.txt, which is used; to use it: ");
-        same(verb, (output.status, output.out, said), (0, wanted, true))?;
+        let got = (output.status, output.out, said, output.errors.lines().count());
+        same(verb, got, (0, wanted, true, 1))?;
     }
     // Its names are not those of the text, then.
     let output = call(work.tree, &["show", &work.at("by name")]);
@@ -337,6 +346,12 @@ fn streams(work: &Work) -> Result<(), String> {
     drop(child.stdout.take());
     let status = child.wait().map_err(|error| error.to_string())?;
     same("a closed pipe", status.code(), Some(0))?;
+    // Nothing is left in the folder for files of an hour.
+    let empty = work.folder.join("hour");
+    fs::create_dir_all(&empty).map_err(|error| error.to_string())?;
+    let output = outcome(command(work.tree, &["show"]).env("TMPDIR", &empty));
+    let left = fs::read_dir(&empty).map_or(1, |files| files.count());
+    same("files of an hour", (output.status, left), (0, 0))?;
     let link = work.folder.join("link");
     symlink(work.tree.root.join("ragbasalt"), &link).map_err(|error| error.to_string())?;
     let output = outcome(Command::new(&link).current_dir(&work.folder));

@@ -158,7 +158,7 @@ const RULES: [(u64, &str); 8] = [
 /// The words of all refusals, on texts with one error each.
 pub fn table(tree: &Tree) -> Tested {
     let plans = plans();
-    let plan_report = |plan: &[u8]| match tree.programs.check(plan).map_err(|missing| missing.0)? {
+    let plan_report = |plan: &[u8]| match tree.programs.check(plan).map_err(|unable| unable.0)? {
         Checked::Accepted(_) => Err(String::from("a damaged plan is accepted")),
         Checked::Refused(refused) => {
             let line =
@@ -177,7 +177,7 @@ pub fn table(tree: &Tree) -> Tested {
     let runs = run_lines();
     for (run, words) in &runs {
         let listing = tree.programs.output_on("run", &[("plan.txt", &plan), ("run.txt", run)]);
-        let Some(refused) = refusal(&listing.map_err(|missing| missing.0)?) else {
+        let Some(refused) = refusal(&listing.map_err(|unable| unable.0)?) else {
             return Err(format!("a damaged run is not refused: {words}"));
         };
         let header = whole()[0];
