@@ -39,10 +39,15 @@ pub struct Plan {
     /// The file as it was named by the user.
     pub file: String,
     pub text: Vec<u8>,
-    /// None where it is a text and nothing beside it gives the same.
-    pub named: Option<Named>,
-    /// Whether the text was made of the named plan.
-    pub is_named: bool,
+    pub origin: Origin,
+}
+
+/// Where a plan's text comes from.
+pub enum Origin {
+    /// A plan text, with the named plan beside it that gives the same.
+    Text(Option<Named>),
+    /// A named plan.
+    Named(Named),
 }
 
 /// A run as a text; of a named one the places of its lines.
@@ -99,7 +104,7 @@ pub fn named_plan(path: &Path) -> Outcome<Plan> {
     }
     let named = named::read(&words(path, &bytes)?)
         .map_err(|mistake| Stop::Refused(mistake.report(&file)))?;
-    Ok(Plan { text: text::text(&named.rows), named: Some(named), file, is_named: true })
+    Ok(Plan { text: text::text(&named.rows), origin: Origin::Named(named), file })
 }
 
 /// A plan text; the names are those of the named plan beside it, if that gives the same text.
@@ -114,7 +119,27 @@ fn plan_text(path: &Path) -> Outcome<Plan> {
     let named = fs::read(&beside).ok();
     let named = named.and_then(|bytes| named::read(&words(&beside, &bytes).ok()?).ok());
     let named = named.filter(|named| text::text(&named.rows) == text);
-    Ok(Plan { file, text, named, is_named: false })
+    Ok(Plan { file, text, origin: Origin::Text(named) })
+}
+
+/// The forms of a plan or run that a folder has: the text, the named one, or both.
+enum Forms {
+    Text(PathBuf),
+    Named(PathBuf),
+    Both(PathBuf, PathBuf),
+}
+
+fn forms(folder: &Path, text: &str, named: &str) -> Found<Forms> {
+    let (file, beside) = (folder.join(text), folder.join(named));
+    match (file.exists(), beside.exists()) {
+        (true, false) => Ok(Forms::Text(file)),
+        (false, true) => Ok(Forms::Named(beside)),
+        (true, true) => Ok(Forms::Both(file, beside)),
+        (false, false) => unable(format!(
+            "there is neither {text} nor {named} in {}; put one there",
+            folder.display()
+        )),
+    }
 }
 
 /// The plan of a file, or of a folder: its text, or if there is none its named plan. A named plan
@@ -123,25 +148,18 @@ pub fn plan(path: &Path) -> Outcome<Plan> {
     if !path.is_dir() {
         return if is_named(path) { named_plan(path) } else { plan_text(path) };
     }
-    let (file, beside) = (path.join(PLAN), path.join(NAMED_PLAN));
-    if !beside.exists() {
-        return match file.exists() {
-            true => plan_text(&file),
-            false => Err(Stop::Unable(format!(
-                "there is neither {PLAN} nor {NAMED_PLAN} in {}; put one there",
-                path.display()
-            ))),
-        };
+    match forms(path, PLAN, NAMED_PLAN)? {
+        Forms::Text(file) => plan_text(&file),
+        Forms::Named(file) => named_plan(&file),
+        Forms::Both(file, beside) => {
+            let plan = plan_text(&file)?;
+            if plan.named().is_none() {
+                let beside = beside.display();
+                say(&format!("{beside} does not give {PLAN}, which is used; to use it: ./ragbasalt plan {beside} >{}", plan.file));
+            }
+            Ok(plan)
+        }
     }
-    if !file.exists() {
-        return named_plan(&beside);
-    }
-    let plan = plan_text(&file)?;
-    if plan.named.is_none() {
-        let beside = beside.display();
-        say(&format!("{beside} does not give {PLAN}, which is used; to use it: ./ragbasalt plan {beside} >{}", plan.file));
-    }
-    Ok(plan)
 }
 
 /// A run in named form.
@@ -160,26 +178,20 @@ pub fn run_text(path: &Path) -> Outcome<RunFile> {
 /// The run of a folder: its text, or if there is none its named run. A named run beside the text
 /// that gives another text is told of.
 pub fn run(folder: &Path, plan: &Accepted) -> Outcome<RunFile> {
-    let (file, beside) = (folder.join(RUN), folder.join(NAMED_RUN));
-    if !beside.exists() {
-        return match file.exists() {
-            true => run_text(&file),
-            false => Err(Stop::Unable(format!(
-                "there is neither {RUN} nor {NAMED_RUN} in {}; put one there",
-                folder.display()
-            ))),
-        };
+    match forms(folder, RUN, NAMED_RUN)? {
+        Forms::Text(file) => run_text(&file),
+        Forms::Named(file) => named_run(&file, plan),
+        Forms::Both(file, beside) => {
+            let run = run_text(&file)?;
+            let same = named_run(&beside, plan).is_ok_and(|named| named.text == run.text);
+            // Where the named plan gives another plan, that has been told.
+            if !same && plan.plan.named().is_some() {
+                let (named, beside) = (folder.join(NAMED_PLAN), beside.display());
+                say(&format!("{beside} does not give {RUN}, which is used; to use it: ./ragbasalt plan {} {beside} >{}", named.display(), run.file));
+            }
+            Ok(run)
+        }
     }
-    if !file.exists() {
-        return named_run(&beside, plan);
-    }
-    let run = run_text(&file)?;
-    let same = named_run(&beside, plan).is_ok_and(|named| named.text == run.text);
-    if !same && plan.plan.named.is_some() {
-        let (named, shown) = (folder.join(NAMED_PLAN), beside.display());
-        say(&format!("{shown} does not give {RUN}, which is used; to use it: ./ragbasalt plan {} {shown} >{}", named.display(), run.file));
-    }
-    Ok(run)
 }
 
 /// A plan that the proved program accepted, with its period and its names.
@@ -197,16 +209,27 @@ impl Accepted {
 }
 
 impl Plan {
+    /// The named plan that gives the text.
+    pub fn named(&self) -> Option<&Named> {
+        match &self.origin {
+            Origin::Text(beside) => beside.as_ref(),
+            Origin::Named(named) => Some(named),
+        }
+    }
+
+    pub fn is_named(&self) -> bool {
+        matches!(self.origin, Origin::Named(_))
+    }
+
     /// The report of a refusal that the proved program gave: of a named plan its line and word.
     pub fn report(&self, refusal: Refusal) -> String {
-        let names = self.named.as_ref().map(|named| &named.names);
-        let found = cause::of_plan(&self.text, names);
+        let found = cause::of_plan(&self.text, self.named().map(|named| &named.names));
+        if let Origin::Named(named) = &self.origin {
+            return named_report(&self.file, named, refusal, found.as_ref());
+        }
         let index = refusal.line.checked_sub(1);
         let line = index.and_then(|index| self.text.chunks(text::LINE).nth(index));
-        match self.named.as_ref().filter(|_| self.is_named) {
-            Some(named) => named_report(&self.file, named, refusal, found.as_ref()),
-            None => cause::report(&self.file, refusal, found.as_ref(), line),
-        }
+        cause::report(&self.file, refusal, found.as_ref(), line)
     }
 
     /// The plan with its period, by the proved program, or the refusal.
@@ -216,7 +239,7 @@ impl Plan {
             Checked::Accepted(period) => {
                 let rows = text::rows(&self.text);
                 let made_up = || Names::made_up(&rows[0]);
-                let names = self.named.as_ref().map_or_else(made_up, |named| named.names.clone());
+                let names = self.named().map_or_else(made_up, |named| named.names.clone());
                 Ok(Accepted { plan: self, period, names, rows })
             }
         }

@@ -142,7 +142,7 @@ impl Tool {
 
     fn text(&self, path: &str, run: Option<&str>) -> Outcome<()> {
         let plan = folder::plan(Path::new(path))?;
-        if plan.is_named {
+        if plan.is_named() {
             return Err(Stop::Unable(format!(
                 "{} is a named plan already; ./ragbasalt plan gives its text",
                 plan.file
@@ -196,7 +196,7 @@ impl Tool {
 
     fn histories(&self, path: Option<&str>) -> Outcome<()> {
         let mut plan = folder::plan(&self.path(path))?;
-        if plan.is_named {
+        if plan.is_named() {
             plan = plan.accepted(&self.programs)?.plan;
         }
         let listing = self.programs.output_on("histories", &[(PLAN, &plan.text)])?;

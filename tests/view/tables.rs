@@ -4,7 +4,7 @@ use std::fs;
 
 use super::cases::case;
 use super::plan;
-use super::view::folder::{followed, Accepted, Plan, RunFile};
+use super::view::folder::{followed, Accepted, Origin, Plan, RunFile};
 use super::view::listing::{Run, State};
 use super::view::names::Names;
 use super::view::{pattern, show, text};
@@ -21,8 +21,7 @@ pub fn run(
     let Ok(read) = plan::read(&plan_text) else { return Ok(None) };
     let rows = text::rows(&plan_text);
     let names = Names::made_up(&rows[0]);
-    let plan =
-        Plan { file: String::from("plan.txt"), text: plan_text, named: None, is_named: false };
+    let plan = Plan { file: String::from("plan.txt"), text: plan_text, origin: Origin::Text(None) };
     let accepted = Accepted { plan, rows, period: read.period, names: names.clone() };
     let file = RunFile { file: String::from("run.txt"), text: run_text, named: None };
     match followed(&accepted, &file, &tree.programs) {
