@@ -1,4 +1,4 @@
-//! One call of libragbasalt.a, or the same of tests/reference, again and again on a plan: for counts of instructions, times and the stack. See bench/calls.
+//! Calls of libragbasalt.a, or the same of tests/reference, again and again on a plan: for counts of instructions, times and the stack. See bench/calls, bench/plan and bench/growth.
 
 #[allow(dead_code)]
 #[path = "../tests/reference/calls.rs"]
@@ -58,8 +58,9 @@ struct Lent {
 }
 
 impl Lent {
-    /// A system two frames after power-on, and a mailbox of equal messages. In a frame node 0 is bad.
-    fn of(text: Vec<u8>) -> Lent {
+    /// A system at power-on, a node before the plan's last frame, where the scan of the tasks is longest, and a mailbox of messages equal to its own, so that a vote takes it
+    /// there again.
+    fn of(text: Vec<u8>, mask: u64) -> Lent {
         let mut l = Lent {
             text,
             words: vec![0; 446],
@@ -73,7 +74,7 @@ impl Lent {
             counters: vec![0; 7],
             rows: vec![0; 224],
             good: vec![0; 7],
-            mask: 1,
+            mask,
             faults: vec![],
             number: 0,
         };
@@ -82,7 +83,11 @@ impl Lent {
         l.faults = vec![0x5a; ours(6, &mut l) as usize];
         l.sensors = (0..l.words[3]).map(|k| (k as f64 + 0.5).to_bits()).collect();
         l.place = vec![0; l.words[4] as usize];
-        for index in [8, 14, 9, 10] {
+        for index in [8, 14] {
+            assert_eq!(ours(index, &mut l), 0);
+        }
+        l.counter = (l.words[1] as u16).saturating_sub(2);
+        for index in [9, 10] {
             assert_eq!(ours(index, &mut l), 0);
         }
         l.mailbox = l.message.repeat(l.words[0] as usize);
@@ -172,26 +177,32 @@ fn stack(index: usize, l: &mut Lent) -> usize {
 
 fn main() {
     let arguments: Vec<String> = std::env::args().collect();
-    let [_, what, name, times, file] = &arguments[..] else {
-        panic!("usage: calls ours|reference|time|stack NAME TIMES PLAN");
+    let [_, what, names, times, file, mask] = &arguments[..] else {
+        panic!("usage: calls ours|reference|time|stack NAME,.. TIMES PLAN MASK");
     };
-    let index = NAMES.iter().position(|n| n == name).expect("a call's name");
+    let place = |name: &str| NAMES.iter().position(|n| *n == name).expect("a call's name");
+    let round: Vec<usize> = names.split(',').map(place).collect();
     let times: u64 = times.parse().expect("a count");
-    let mut l = Lent::of(std::fs::read(file).expect("a plan"));
+    let mask = mask.parse().expect("a mask");
+    let mut l = Lent::of(std::fs::read(file).expect("a plan"), mask);
     let begun = std::time::Instant::now();
     match what.as_str() {
         "ours" | "time" => {
             for _ in 0..times {
-                black_box(ours(index, &mut l));
+                for &index in &round {
+                    black_box(ours(index, &mut l));
+                }
             }
         }
         "reference" => {
             for _ in 0..times {
-                black_box(reference(index, &mut l));
+                for &index in &round {
+                    black_box(reference(index, &mut l));
+                }
             }
         }
         _ => {
-            let used = std::thread::Builder::new().stack_size(4 << 20).spawn(move || stack(index, &mut l)).unwrap().join().unwrap();
+            let used = std::thread::Builder::new().stack_size(4 << 20).spawn(move || stack(round[0], &mut l)).unwrap().join().unwrap();
             println!("{used}");
         }
     }

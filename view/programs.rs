@@ -42,6 +42,11 @@ pub struct Programs {
 /// Where the prover's output goes, below the repository's folder.
 const LOG: &str = "target/prove.log";
 
+/// rt, with its scratch files in memory where that is possible. Some of its lines go to its standard error.
+const PROVE: &str = r#"folder=$(bash .ci/scratch 2>/dev/null)
+[ -z "$folder" ] || { export TMPDIR="$folder"; trap 'rm -rf "$folder"' EXIT; }
+rt "$@" 2>&1"#;
+
 const LIBRARY: &str = "target/staticlib/libragbasalt.a";
 
 /// The newest change of a source of the crates.
@@ -112,7 +117,8 @@ impl Programs {
         let list = fs::read_to_string(self.root.join("crates.txt")).unwrap_or_default();
         let below = |name: &str| {
             let line = list.lines().find_map(|line| line.strip_prefix(name)?.strip_prefix(':'));
-            line.map(|rest| rest.split_whitespace().map(String::from).collect::<Vec<_>>())
+            let listed = line.and_then(|rest| rest.split('#').next());
+            listed.map(|rest| rest.split_whitespace().map(String::from).collect::<Vec<_>>())
         };
         let mut found = BTreeSet::new();
         let mut left: Vec<String> = names.iter().map(|name| String::from(*name)).collect();
@@ -135,9 +141,8 @@ impl Programs {
             .map_err(|error| cannot(format!("target/ cannot be made: {error}")))?;
         let mut log = fs::File::create(self.root.join(LOG))
             .map_err(|error| cannot(format!("{LOG} cannot be written: {error}")))?;
-        // Some of rt's lines go to its standard error.
         let mut rt = Command::new("sh")
-            .args(["-c", "exec rt \"$@\" 2>&1", "rt", verb])
+            .args(["-c", PROVE, "rt", verb])
             .args(names)
             .current_dir(&self.root)
             .stdin(Stdio::null())

@@ -364,7 +364,7 @@ fn first_use(work: &Work) -> Result<(), String> {
     let view = work.tree.root.join("target/view/ragbasalt");
     work.file(
         "tree/crates.txt",
-        "# crates\nplan:\nlines: plan\nother: plan\nrun: plan lines io\nplan_check: plan\n",
+        "# crates\nplan:\nlines: plan\nother: plan\nrun: plan lines io\nplan_check: plan # not other\n",
     )?;
     work.file("tree/crates/plan/src/lib.rt", "")?;
     work.file("tree/examples/k/plan.txt", "x")?;

@@ -6,7 +6,7 @@ use native.Mathlib.Omega.{arith}
 use native.Mathlib.Nat.{add-zero}
 use lib.ListN.{length, getD, take, drop, set, length-append, length-take, length-drop, take-append-drop, List·getD-append}
 use lib.Seq.{getD-append-add, getD-take, getD-drop, length-take-le, take-at, drop-at, drop-drop, set-split, take-set-le}
-use Rattle.array.specs.Place.{placed}
+use Rattle.array.specs.Code.{placed}
 
 module _ (s : List ℕ) (at : ℕ) where
   pub placed-none : s ≡ placed s at []

@@ -53,6 +53,13 @@ module _ {A : Type 0} where
   unfolding fill
   fill-kept f n l d e = rw (add-one n, e) (sym (rw (fill-out f n l n d (omega arith)) at (set-getD (fill f n l) n d)))
 
+  -- a list copied entry by entry
+  pub fill-copied : (d : A) (v l : List A) (n : ℕ) → length v ≡ n → length l ≡ n → fill (λ i. getD v i d) n l ≡ v
+  fill-copied d v l n e f =
+      let long : length (fill (λ i. getD v i d) n l) ≡ n = fill-length (λ i. getD v i d) n l ∙ f in
+      ext-getD d (fill (λ i. getD v i d) n l) v (long ∙ sym e)
+      (λ i h. fill-in (λ i. getD v i d) n l i d (omega arith) (omega arith))
+
   -- ---- a list holds a part from a place
 
   pub record Holds (s : List A) (at : ℕ) (t : List A) : Type 0 where

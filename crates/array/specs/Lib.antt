@@ -1,4 +1,4 @@
 pub mod Index
 pub mod Word
 pub mod Bit
-pub mod Place
+pub mod Code

@@ -1,9 +1,10 @@
-// Big-endian words of two and eight bytes. Each requires that the word's place lies in the slice.
+// Big-endian words of two and eight bytes, each of which requires that the word's place lies in the slice; a bit of a word; the copy of words.
 ghost use mathlib.Core.Path.{_≡_};
 ghost use mathlib.Core.List.{_++_};
 ghost use Prim.Native.Nat.{_+_, _*_, _<_, _≤_, _^_};
 ghost use lib.ListN.{length, take, drop};
 ghost use Rattle.array.specs.Word.{be, bytes};
+ghost use Rattle.array.specs.Bit.{bit};
 
 // The number of two bytes.
 fn pair(a: u8, b: u8) -> u16
@@ -21,14 +22,14 @@ fn and_byte(a: u64, b: u8) -> u64
 }
 
 // Unrolled, so that it is compiled to one load and a byte swap.
-pub fn read2(s: &[u8], at: usize) -> u16
+pub fn read_be2(s: &[u8], at: usize) -> u16
     requires { ⌜ at + 2 ≤ length (now s) ⌝ }
     ensures { λ r. ⌜ r ≡ be 2 (now (s .entry)) at ⌝ }
 {
     pair(s[at], s[at + 1])
 }
 
-pub fn read8(s: &[u8], at: usize) -> u64
+pub fn read_be8(s: &[u8], at: usize) -> u64
     requires { ⌜ at + 8 ≤ length (now s) ⌝ }
     ensures { λ r. ⌜ r ≡ be 8 (now (s .entry)) at ⌝ }
 {
@@ -42,7 +43,7 @@ pub fn read8(s: &[u8], at: usize) -> u64
     and_byte(g, s[at + 7])
 }
 
-pub fn write2(s: &mut [u8], at: usize, x: u16)
+pub fn write_be2(s: &mut [u8], at: usize, x: u16)
     requires { ⌜ at + 2 ≤ length (now s) ⌝ }
     ensures { λ _. ⌜ now (s .exit) ≡ take at (now (s .entry)) ++ (bytes 2 x ++ drop (at + 2) (now (s .entry))) ⌝ }
 {
@@ -50,7 +51,7 @@ pub fn write2(s: &mut [u8], at: usize, x: u16)
     s[at + 1] = (x % 256) as u8;
 }
 
-pub fn write8(s: &mut [u8], at: usize, x: u64)
+pub fn write_be8(s: &mut [u8], at: usize, x: u64)
     requires { ⌜ at + 8 ≤ length (now s) ⌝ }
     ensures { λ _. ⌜ now (s .exit) ≡ take at (now (s .entry)) ++ (bytes 8 x ++ drop (at + 8) (now (s .entry))) ⌝ }
 {
@@ -69,4 +70,24 @@ pub fn write8(s: &mut [u8], at: usize, x: u64)
     s[at + 5] = (f % 256) as u8;
     s[at + 6] = (g % 256) as u8;
     s[at + 7] = (x % 256) as u8;
+}
+
+pub fn is_set(w: u64, i: usize) -> bool
+    requires { ⌜ i < 64 ⌝ }
+    ensures { λ r. ⌜ r ≡ bit w i ⌝ }
+{
+    (w >> i) % 2 == 1
+}
+
+// Words copied to a place that is as long.
+pub fn copy(from: &[u64], to: &mut [u64])
+    requires { ⌜ length (now from) ≡ length (now to) ⌝ }
+    ensures { λ _. ⌜ now (to .exit) ≡ now (from .entry) ⌝ }
+{
+    let n = from.len();
+    let mut k: usize = 0;
+    while k < n {
+        to[k] = from[k];
+        k += 1;
+    }
 }

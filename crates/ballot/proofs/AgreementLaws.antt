@@ -1,15 +1,11 @@
 -- Laws of a vote's agreement: above 0 exactly where there is a voted value, then above half; and what each of a vote's cases gives.
-use mathlib.Core.Path.{_≡_, refl, sym, ap, _∙_}
-use mathlib.Core.List.{List}
+use mathlib.Core.Path.{_≡_, refl, ap, _∙_}
 use mathlib.Core.Option.{Option, none, some}
 use Prim.Native.Nat.{ℕ, _*_, _≤_, _<_}
 use native.Mathlib.Omega.{arith}
 use Rattle.array.proofs.IndexLaws.{howMany-bound}
 use Rattle.ballot.specs.Majority.{holds, holders, backing, majority, agreement}
-use Rattle.ballot.specs.Code.{packed, Told}
 use Rattle.ballot.proofs.MajorityLaws.{backing-same, majority-some, majority-of-most, majority-same}
-use Rattle.ballot.proofs.BinLaws.{told-majority}
-use Rattle.ballot.proofs.PackedLaws.{packed-in}
 
 pub holders-bound : (bin : ℕ → Option ℕ) (n v : ℕ) → holders bin n v ≤ n
 unfolding holders
@@ -49,11 +45,3 @@ module _ (bin : ℕ → Option ℕ) (n : ℕ) where
 pub agreement-same : (f g : ℕ → Option ℕ) (n : ℕ) → ((j : ℕ) → j < n → f j ≡ g j) → agreement f n ≡ agreement g n
 unfolding agreement
 agreement-same f g n e = backing-same f g n e (majority f n) ∙ ap (backing g n) (majority-same f g n e)
-
--- what is counted of values that are what the bins hold, for what was voted
-pub told-agreement :
-    (bin : ℕ → Option ℕ) (n : ℕ) (values : List ℕ) {voted : Option ℕ} {r : ℕ} →
-    Told bin n values → voted ≡ majority (packed values n) n → r ≡ backing (packed values n) n voted → r ≡ agreement bin n
-unfolding agreement
-told-agreement bin n values t v h =
-    h ∙ backing-same (packed values n) bin n (λ j l. packed-in values n j l ∙ sym (t j l)) _ ∙ ap (backing bin n) (v ∙ told-majority bin n values t)

@@ -1,4 +1,4 @@
--- Laws of values that are what bins hold: a loop that reads them one by one, and the vote and the plane on them.
+-- Laws of values that are what bins hold, in their order: a loop that reads them one by one, and the plane on them.
 use mathlib.Core.Path.{_≡_, sym, ap, _∙_}
 use mathlib.Core.List.{List}
 use mathlib.Core.Option.{Option, some}
@@ -10,10 +10,9 @@ use lib.ListN.{length, set}
 use lib.Seq.{getD-set-same, getD-set-other}
 use borrow.Author.Tests.{eqb-true, eqb-false}
 use Rattle.array.proofs.TestLaws.{split}
-use Rattle.ballot.specs.Majority.{holders, majority}
 use Rattle.ballot.specs.Plane.{plane}
-use Rattle.ballot.specs.Code.{packed, Told}
-use Rattle.ballot.proofs.MajorityLaws.{holders-same, majority-same}
+use Rattle.ballot.specs.Code.{packed, Packs, Told}
+use Rattle.ballot.proofs.MajorityLaws.{holders-same}
 use Rattle.ballot.proofs.PlaneLaws.{plane-same}
 use Rattle.ballot.proofs.PackedLaws.{packed-in}
 
@@ -28,11 +27,8 @@ module _ (bin : ℕ → Option ℕ) (values : List ℕ) where
       (λ q. t i (omega (arith, eqb-false i j q)) ∙ ap some (sym (getD-set-other values j i w 0 (eqb-false i j q))))
 
 module _ (bin : ℕ → Option ℕ) (n : ℕ) (values : List ℕ) (t : Told bin n values) where
-  pub told-holders : (v : ℕ) → holders (packed values n) n v ≡ holders bin n v
-  told-holders v = holders-same (packed values n) bin n v (λ j l. packed-in values n j l ∙ sym (t j l))
-
-  pub told-majority : majority (packed values n) n ≡ majority bin n
-  told-majority = majority-same (packed values n) bin n (λ j l. packed-in values n j l ∙ sym (t j l))
+  pub told-packs : Packs bin n values n
+  told-packs = record { few = omega arith; alike = λ v. holders-same (packed values n) bin n v (λ j l. packed-in values n j l ∙ sym (t j l)) }
 
   pub told-plane : plane (packed values n) n ≡ plane bin n
   told-plane = plane-same (packed values n) bin n (λ j l. packed-in values n j l ∙ sym (t j l))

@@ -11,7 +11,7 @@ use borrow.Author.Tests.{ltb-true, ltb-false, eqb-true, eqb-false, eq-eqb}
 use Rattle.array.specs.Index.{howMany}
 use Rattle.array.proofs.TestLaws.{split, clash}
 use Rattle.array.proofs.IndexLaws.{howMany-le, howMany-apart, howMany-some}
-use Rattle.ballot.specs.Majority.{holds, holders, backing, shared, orElse, firstShared, majority}
+use Rattle.ballot.specs.Majority.{holds, holders, backing, shared, firstOf, firstShared, majority}
 
 -- ---- a bin holds a value, or nothing
 
@@ -52,11 +52,11 @@ holders-some bin n v h = let r = howMany-some (λ j. holds (bin j) v) n h in (r 
 
 -- ---- the first shared value
 
-or-some : (o r : Option ℕ) (v : ℕ) → orElse o r ≡ some v → (o ≡ some v) ⊎ (r ≡ some v)
+or-some : (o r : Option ℕ) (v : ℕ) → firstOf o r ≡ some v → (o ≡ some v) ⊎ (r ≡ some v)
 or-some none r v e = inr e
 or-some (some w) r v e = inl e
 
-or-none : (o r : Option ℕ) → orElse o r ≡ none → (o ≡ none) × (r ≡ none)
+or-none : (o r : Option ℕ) → firstOf o r ≡ none → (o ≡ none) × (r ≡ none)
 or-none none r e = (refl, e)
 or-none (some w) r e = absurd (no-some (sym e))
 

@@ -12,8 +12,8 @@ use lib.Dec.{ltb}
 use borrow.Author.Tests.{ltb-true, ltb-false, lt-ltb, le-ltb}
 use Rattle.array.specs.Index.{howMany}
 use Rattle.array.proofs.TestLaws.{split}
-use Rattle.ballot.specs.Majority.{holds, holders, majority}
-use Rattle.ballot.specs.Code.{packed}
+use Rattle.ballot.specs.Majority.{holds, holders, backing, majority, agreement}
+use Rattle.ballot.specs.Code.{packed, Packs}
 use Rattle.ballot.proofs.MajorityLaws.{no-some, holders-same, majority-of-few, majority-by-holders}
 use Rattle.ballot.proofs.ScanLaws.{holders-hit, holders-miss, holders-past}
 
@@ -79,6 +79,22 @@ module _ (bin : ℕ → Option ℕ) (values : List ℕ) where
   pub packed-silent : (k j : ℕ) → bin j ≡ none → Packed bin values k j → Packed bin values k (j + 1)
   packed-silent k j e p v = holders-miss bin j (λ s. no-some (sym e ∙ s)) (p v)
 
-  pub packed-majority : (k n : ℕ) → k ≤ n → Packed bin values k n → majority (packed values k) n ≡ majority bin n
-  packed-majority k n l p =
-      majority-by-holders (packed values k) bin n (λ v. sym (holders-past (packed values k) k n v l (packed-out values k)) ∙ p v)
+-- values that are packed: the vote sees no difference
+module _ (bin : ℕ → Option ℕ) (n : ℕ) {values : List ℕ} {k : ℕ} (p : Packs bin n values k) where
+  pub packs-majority : majority (packed values k) n ≡ majority bin n
+  packs-majority =
+      majority-by-holders (packed values k) bin n (λ v. sym (holders-past (packed values k) k n v (p .few) (packed-out values k)) ∙ p .alike v)
+
+  backing-alike : (o : Option ℕ) → backing (packed values k) k o ≡ backing bin n o
+  unfolding backing
+  backing-alike none = refl
+  backing-alike (some v) = p .alike v
+
+  -- what is counted of them, for what was voted
+  pub packs-agreement : {voted : Option ℕ} {r : ℕ} → voted ≡ majority (packed values k) n → r ≡ backing (packed values k) k voted → r ≡ agreement bin n
+  unfolding agreement
+  packs-agreement {voted} v h = h ∙ backing-alike voted ∙ ap (backing bin n) (v ∙ packs-majority)
+
+pub packs-same :
+    (f g : ℕ → Option ℕ) (n : ℕ) → ((j : ℕ) → j < n → f j ≡ g j) → {values : List ℕ} {k : ℕ} → Packs f n values k → Packs g n values k
+packs-same f g n e p = record { few = p .few; alike = λ v. p .alike v ∙ holders-same f g n v e }

@@ -4,8 +4,6 @@ use mathlib.Core.Option.{Option, none, some}
 use Prim.Native.Nat.{ℕ, zero, suc, _*_}
 use lib.Dec.{eqb, ltb}
 use Rattle.array.specs.Index.{howMany}
-use Rattle.ballot.specs.declared.Voted.{Voted}
-use Rattle.ballot.specs.declared.Voted.the-variants.{Value, Nothing}
 
 -- whether a bin holds x
 unfoldable pub holds : Option ℕ → ℕ → Bool
@@ -26,14 +24,14 @@ unfoldable pub shared : (ℕ → Option ℕ) → ℕ → Option ℕ → Option �
 shared bin n none = none
 shared bin n (some v) = cond (ltb n (2 * holders bin n v)) (some v) none
 
-abbrev pub orElse : Option ℕ → Option ℕ → Option ℕ
-orElse none o = o
-orElse (some v) o = some v
+abbrev pub firstOf : Option ℕ → Option ℕ → Option ℕ
+firstOf none o = o
+firstOf (some v) o = some v
 
 -- the value of the first among the first i bins that more than half of the n share
 unfoldable pub firstShared : (ℕ → Option ℕ) → ℕ → ℕ → Option ℕ
 firstShared bin n zero = none
-firstShared bin n (suc i) = orElse (firstShared bin n i) (shared bin n (bin i))
+firstShared bin n (suc i) = firstOf (firstShared bin n i) (shared bin n (bin i))
 
 -- the voted value of n bins
 unfoldable pub majority : (ℕ → Option ℕ) → ℕ → Option ℕ
@@ -47,8 +45,3 @@ agreement bin n = backing bin n (majority bin n)
 unfoldable pub orOwn : ℕ → ℕ → Option ℕ → ℕ
 orOwn frames own none = own
 orOwn frames own (some v) = cond (ltb v frames) v own
-
--- what the cases of the code's enum say
-abbrev pub votedValue : Voted → Option ℕ
-votedValue (Value v) = some v
-votedValue Nothing = none

@@ -3,9 +3,9 @@ ghost use mathlib.Core.Path.{_≡_};
 ghost use mathlib.Core.Option.{some, Option·getD};
 ghost use Prim.Native.Nat.{_<_, _≤_, min as minOf};
 ghost use Rattle.plan.specs.Limits.{mostNodes, mostFrames};
-ghost use Rattle.ballot.specs.Majority.{holders as holdersOf, backing, majority as majorityOf, orOwn, votedValue};
+ghost use Rattle.ballot.specs.Majority.{holders as holdersOf, backing, majority as majorityOf, orOwn};
+ghost use Rattle.ballot.specs.Code.{votedValue, packed};
 ghost use Rattle.ballot.specs.Plane.{plane as planeOf};
-ghost use Rattle.ballot.specs.Code.{packed};
 use super::Voted;
 use plan::Plan;
 
@@ -51,15 +51,15 @@ pub fn majority(values: &[u64; Plan::NODES], k: usize, n: usize) -> Voted
     found
 }
 
-// How many of the n values are the voted one.
-pub fn agreement(values: &[u64; Plan::NODES], n: usize, v: Voted) -> usize
-    requires { ⌜ n ≤ mostNodes ⌝ }
-    ensures { λ r. ⌜ r ≡ backing (packed (now (values .entry)) n) n (votedValue v) ⌝ }
+// How many of the first k values are the voted one.
+pub fn agreement(values: &[u64; Plan::NODES], k: usize, v: Voted) -> usize
+    requires { ⌜ k ≤ mostNodes ⌝ }
+    ensures { λ r. ⌜ r ≡ backing (packed (now (values .entry)) k) k (votedValue v) ⌝ }
 {
     let Voted::Value(x) = v else {
         return 0;
     };
-    holders(values, n, x)
+    holders(values, k, x)
 }
 
 pub fn min(x: usize, y: usize) -> usize

@@ -18,7 +18,7 @@ fn entry(i: u64) -> u64
 
 fn print_line(v: u64) {
     let mut shown = [0u8; WIDTH];
-    column::write(&mut shown, v);
+    column_write::write(&mut shown, v);
     io::write_all(STDOUT_FILENO, b"    ");
     io::write_all(STDOUT_FILENO, column::digits(&shown, 0, WIDTH));
     io::write_all(STDOUT_FILENO, b",\n");

@@ -6,7 +6,7 @@ use native.Mathlib.Omega.{arith}
 use lib.ListN.{length, take, drop, length-append, length-drop}
 use lib.Seq.{length-take-le, drop-drop}
 use borrow.Rule.Slice.PartMut.{putMid}
-use Rattle.array.specs.Place.{placed}
+use Rattle.array.specs.Code.{placed}
 use Rattle.array.proofs.PlacedLaws.{placed-none, placed-length, placed-next}
 use Rattle.column.specs.Column.{column}
 use Rattle.column.proofs.ColumnLaws.{column-length}
@@ -46,3 +46,11 @@ module _ {s : List ℕ} {at n : ℕ} {t xs : List ℕ} (l : Laid s at n t xs) wh
             ∙ placed-next s at t xs (column w v) a (l .holds) (omega (arith, l .bytes)) (omega arith);
         bytes = length-append t (column w v) ∙ rw (l .bytes, column-length w v);
       }
+
+-- a column at a place
+pub put-placed :
+    (s ys : List ℕ) (at w v : ℕ) →
+    at + w ≤ length s →
+    ys ≡ column (length (take (at + w - at) (drop at s))) v →
+    putMid at (at + w - at) s ys ≡ placed s at (column w v)
+put-placed s ys at w v l e = lay (laid-none s at) ys at (at + w) w v (omega arith) refl l e .holds

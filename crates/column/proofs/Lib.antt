@@ -1,11 +1,7 @@
 pub mod ReadingLaws
-pub mod WritingLaws
 pub mod DigitsLaws
 pub mod ColumnLaws
 pub mod RowLaws
 pub mod BufferLaws
 pub mod BytesLaws
-pub mod DigitWordLaws
-pub mod PaddingLaws
-pub mod PrintLaws
 pub mod BlankLaws

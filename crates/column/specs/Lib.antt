@@ -1,3 +1,2 @@
 pub mod Column
 pub mod Row
-pub mod Digits

@@ -1,8 +1,7 @@
-// A right-justified decimal column: read, and written.
+// A right-justified decimal column, read. `column_write` writes it.
 ghost use mathlib.Core.Path.{_≡_};
-ghost use lib.ListN.{length};
 ghost use lib.Seq.{slice};
-ghost use Rattle.column.specs.Column.{dropBlanks, numberShown, mark, column};
+ghost use Rattle.column.specs.Column.{dropBlanks, numberShown};
 ghost use Rattle.numeral.specs.Answers.{shown};
 use numeral::Number;
 
@@ -21,7 +20,7 @@ pub fn digits<'a>(line: &'a [u8], from: usize, to: usize) -> &'a [u8]
     }
     let mut i = from;
     while 4 <= end - i {
-        let w = word::step::read4(line, i);
+        let w = word::step::read_le4(line, i);
         if w != step::BLANKS {
             i += step::blanks(w);
             return &line[i..end];
@@ -43,57 +42,7 @@ pub fn read(line: &[u8], from: usize, to: usize) -> Number
 {
     let d = digits(line, from, to);
     if step::is_wide(from, to) {
-        return numeral::numeral(d);
+        return numeral_read::numeral(d);
     }
     numeral::step::few(d)
-}
-
-// The byte for what is left of a number: its last digit, or a blank where nothing is left.
-fn glyph(q: u64) -> u8
-    ensures { λ r. ⌜ r ≡ mark q ⌝ }
-{
-    if q == 0 { 32 } else { 48 + (q % 10) as u8 }
-}
-
-// Fills the column with the number, right-justified.
-pub fn write(out: &mut [u8], v: u64)
-    ensures { λ _. ⌜ now (out .exit) ≡ column (length (now (out .entry))) v ⌝ }
-{
-    let mut i = out.len();
-    let mut rest = v;
-    while 8 <= i {
-        i -= 8;
-        let low = rest % 100000000;
-        rest = rest / 100000000;
-        let d = step::digit_word(low / 10000, low % 10000);
-        if rest == 0 {
-            word::step::write8(out, i, step::blanked(d, step::LAST_OF_EIGHT));
-            step::put_blanks(out, i);
-            return;
-        }
-        word::step::write8(out, i, d + step::ZEROS);
-    }
-    if 4 <= i {
-        i -= 4;
-        let low = rest % 10000;
-        rest = rest / 10000;
-        let d = step::digit_word(low, 0);
-        if rest == 0 {
-            word::step::write4(out, i, step::blanked(d, step::LAST_OF_FOUR));
-            step::put_blanks(out, i);
-            return;
-        }
-        word::step::write4(out, i, d + step::ZEROS);
-    }
-    if i == 0 {
-        return;
-    }
-    i -= 1;
-    out[i] = 48 + (rest % 10) as u8;
-    rest = rest / 10;
-    while 0 < i {
-        i -= 1;
-        out[i] = glyph(rest);
-        rest = rest / 10;
-    }
 }

@@ -15,7 +15,7 @@ use Rattle.plan.specs.declared.Plan.{Plan}
 use Rattle.plan.specs.Known.{period as periodOf}
 use Rattle.system.specs.declared.System.{System}
 use Rattle.system.specs.Counts.{countAfter, goodAfter, isWorking}
-use Rattle.system.specs.Frame.{maskOk, countsOk}
+use Rattle.system.specs.FrameCall.{maskOk, countsOk}
 
 -- ---- a count
 

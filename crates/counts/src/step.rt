@@ -1,6 +1,6 @@
 // Bad nodes and good counts, for callers that know how many nodes there are, and the plan's period.
 ghost use mathlib.Core.Path.{_≡_};
-ghost use Prim.Native.Nat.{_<_, _≤_};
+ghost use Prim.Native.Nat.{_<_, _≤_, _^_};
 ghost use lib.Dec.{eqb, leb, ltb};
 ghost use lib.ListN.{getD};
 ghost use Rattle.array.specs.Index.{howMany, allBelow, fill};
@@ -14,13 +14,21 @@ pub fn is_bad(mask: u64, i: usize) -> bool
     requires { ⌜ i < mostNodes ⌝ }
     ensures { λ r. ⌜ r ≡ bit mask i ⌝ }
 {
-    (mask >> i) % 2 == 1
+    array::step::is_set(mask, i)
 }
 
 fn above(count: u16, period: usize) -> bool
     ensures { λ r. ⌜ r ≡ ltb period count ⌝ }
 {
     period < count as usize
+}
+
+// 9: the mask.
+pub fn mask_ok(nodes: usize, mask: u64) -> bool
+    requires { ⌜ nodes ≤ mostNodes ⌝ }
+    ensures { λ r. ⌜ r ≡ ltb mask (2 ^ nodes) ⌝ }
+{
+    mask >> nodes == 0
 }
 
 // 9: the good counts of the plan's nodes.

@@ -12,7 +12,7 @@ use borrow.Author.Tests.{eqb-true, eqb-false, ltb-true, ltb-false, not-false}
 use borrow.Rule.Slice.PartMut.{putMid}
 use Rattle.array.specs.Index.{fill}
 use Rattle.array.specs.Bit.{bit}
-use Rattle.array.specs.Place.{placed}
+use Rattle.array.specs.Code.{placed}
 use Rattle.array.proofs.TestLaws.{split, and-left}
 use Rattle.array.proofs.BitLaws.{bit-none}
 use Rattle.array.proofs.LoopLaws.{stored-next, stored-still}

@@ -1,19 +1,16 @@
 -- The lines of the histories, from their masks.
 use mathlib.Core.Path.{_≡_, refl, sym, ap, ap₂, _∙_}
-use mathlib.Core.Bool.{true}
+use mathlib.Core.Bool.{true, false}
 use mathlib.Core.List.{List, [], _∷_, _++_, append-assoc, flatten}
 use mathlib.Core.Option.{Option, none, some, Option·getD}
-use Prim.Native.Nat.{ℕ, _+_, _-_, _*_, _≤_}
+use Prim.Native.Nat.{ℕ, _+_, _-_, _*_, _/_, _≤_}
 use native.Mathlib.Omega.{arith}
 use native.Mathlib.Nat.{add-zero}
 use lib.ListN.{length, take, drop, getD, set, length-append, length-set}
-use lib.Dec.{leb}
 use lib.Seq.{set-split}
-use borrow.Author.Tests.{le-leb}
 use borrow.Rule.Slice.PartMut.{putMid}
 use Rattle.array.specs.Index.{joined, from}
-use Rattle.array.specs.Place.{placed}
-use Rattle.array.proofs.TestLaws.{split}
+use Rattle.array.specs.Code.{placed}
 use Rattle.array.proofs.PlacesLaws.{joined-none, joined-more, joined-length, joined-same}
 use Rattle.array.proofs.PlacedLaws.{placed-none, placed-next, placed-length, front-taken, part-back}
 use Rattle.column.specs.Column.{column}
@@ -21,27 +18,31 @@ use Rattle.column.specs.Row.{row}
 use Rattle.column.proofs.ColumnLaws.{column-length}
 use Rattle.column.proofs.RowLaws.{total, row-length}
 use Rattle.answer.specs.declared.Answer.{Answer}
-use Rattle.answer.specs.declared.Answer.the-variants.{Done}
+use Rattle.answer.specs.declared.Answer.the-variants.{Done, NodesOrLength}
 use Rattle.answer.specs.Refusal.{numberOf}
-use Rattle.answer.specs.Tests.{passed, answerOf, answered, ifPassed, unlessRefused}
+use Rattle.answer.specs.Tests.{unlessRefused}
 use Rattle.plan.specs.declared.Plan.{Plan}
 use Rattle.plan.specs.Known.{period}
 use Rattle.plan.specs.Accepted.{accepted}
+use Rattle.plan_period.specs.Answers.{acceptedPeriod}
+use Rattle.plan_period.proofs.AnswerLaws.{accepted-period}
 use Rattle.plan_grammar.specs.Meant.{zeroPlan, planOf}
 use Rattle.plan_grammar.specs.Refused.{textRefusal}
 use Rattle.plan_grammar.proofs.RefusedLaws.{refusal-numbered}
 use Rattle.plan_text.specs.declared.PlanRead.{PlanRead}
 use Rattle.plan_text.specs.Answers.{readAnswer}
+use Rattle.plan_text.specs.Code.{readPeriod}
 use Rattle.plan_text.proofs.TextLaws.{read-plan}
 use Rattle.run_line.specs.Line.{refusalLine, refusalSize}
 use Rattle.run_line.proofs.WritingLaws.{placed-whole, refusal-length}
-use Rattle.history.specs.Histories.{histories}
-use Rattle.history.specs.declared.HistoriesListed.{HistoriesListed}
-use Rattle.history.specs.Answers.{limitsOk, planHistories, historiesTests, historiesAnswer, historiesPlace}
-use Rattle.history.specs.Code.{historiesAfter}
-use Rattle.history.proofs.ListedLaws.{in-place}
-use Rattle.history.proofs.BoundLaws.{histories-few}
-use Rattle.history.proofs.CallLaws.{few-nodes}
+use Rattle.history_masks.specs.Histories.{histories}
+use Rattle.history_masks.specs.Limits.{limitsOk}
+use Rattle.history.specs.Answers.{planHistories}
+use Rattle.history_masks.specs.Code.{historiesAfter}
+use Rattle.history.proofs.ListedLaws.{histories-length, in-place}
+use Rattle.history_masks.proofs.BoundLaws.{histories-few}
+use Rattle.history.proofs.CallLaws.{front-placed}
+use Rattle.history_masks.proofs.LimitsLaws.{few-nodes}
 use Rattle.histories.specs.HistoriesListing.{historyFrames, historyWidths, historyLines, planListing, historiesListing}
 use Rattle.histories.specs.Code.{mostHistories, historyLineSize}
 
@@ -130,34 +131,32 @@ module _ (p : Plan) where
   unfolding planHistories histories historiesAfter
   few-listed l = histories-few (p .nodes) (period p) (few-nodes (p .nodes) historyFrames l) [] historyFrames
 
-  -- ---- what the call gives with a buffer that is long enough
+  -- ---- within the limits and not
 
-  module _ (a : accepted p ≡ true) (masks : List ℕ) (room : mostHistories * historyFrames ≤ length masks) where
-    fits : limitsOk (p .nodes) historyFrames ≡ true → leb (length listed * historyFrames) (length masks) ≡ true
-    fits l = le-leb (length listed * historyFrames) (length masks) (omega (arith, room, few-listed l))
+  pub plan-outside : limitsOk (p .nodes) historyFrames ≡ false → refusalLine NodesOrLength ≡ planListing p
+  unfolding planListing
+  plan-outside l = rw l
 
-    pub plan-outside : (numberOf (historiesAnswer p historyFrames (length masks) .answer) ≡ 0 → ⊥) → refusalLine (historiesAnswer p historyFrames (length masks) .answer) ≡ planListing p
-    unfolding historiesAnswer historiesTests answered answerOf planListing
-    plan-outside =
-        split (limitsOk (p .nodes) historyFrames)
-        (λ l. rw (a, l, fits l) (λ n. absurd (n refl)))
-        (λ l. rw (a, l) (λ n. refl))
+  module _ (l : limitsOk (p .nodes) historyFrames ≡ true) {r : ℕ} (e : r ≡ period p) where
+    abbrev masksOf : List ℕ
+    masksOf = flatten (histories (p .nodes) r historyFrames)
 
-    pub plan-within : numberOf (historiesAnswer p historyFrames (length masks) .answer) ≡ 0 → limitsOk (p .nodes) historyFrames ≡ true
-    unfolding historiesAnswer historiesTests answered answerOf
-    plan-within =
-        split (limitsOk (p .nodes) historyFrames)
-        (λ l n. l)
-        (λ l. rw (a, l) (λ n. absurd (omega (arith, n))))
+    pub masks-long : length masksOf ≡ length listed * historyFrames
+    unfolding planHistories
+    masks-long = histories-length (p .nodes) r historyFrames ∙ rw e
 
-    module _ (l : limitsOk (p .nodes) historyFrames ≡ true) where
-      pub count-printed : (historiesAnswer p historyFrames (length masks) .count ≡ length listed) × (length listed ≤ mostHistories)
-      unfolding historiesAnswer historiesTests passed ifPassed
-      count-printed = (rw (a, l, fits l), few-listed l)
+    pub masks-few : length masksOf ≤ mostHistories * historyFrames
+    masks-few = omega (arith, masks-long, few-listed l)
 
-      pub lines-printed : joined (historyLineAt (historiesPlace p historyFrames masks)) (length listed) ≡ planListing p
-      unfolding historiesPlace historiesTests passed ifPassed planListing
-      lines-printed = rw (a, l, fits l) (lines-are (drop (length listed * historyFrames) masks))
+    pub count-few : {size : ℕ} → size ≡ length masksOf → (size / historyFrames ≡ length listed) × (length listed ≤ mostHistories)
+    count-few s = (omega (arith, s, masks-long), few-listed l)
+
+    pub lines-printed : (masks : List ℕ) → joined (historyLineAt (placed masks 0 masksOf)) (length listed) ≡ planListing p
+    unfolding planListing
+    lines-printed masks =
+        rw l
+        (ap (λ (ms : List ℕ). joined (historyLineAt ms) (length listed)) (front-placed p historyFrames e masks)
+        ∙ lines-are (drop (length listed * historyFrames) masks))
 
 -- ---- the text of a plan
 
@@ -196,32 +195,41 @@ module _ (text : List ℕ) (x : PlanRead) (e : x ≡ readAnswer text) {n : ℕ} 
       let front = refusal-taken s (x .answer) (omega (arith, room)) h in
       (front .0, front .1 ∙ ap (λ (y : PlanRead). refusalLine (y .answer)) e ∙ text-refused text (λ t. z (f ∙ ap (λ (y : PlanRead). numberOf (y .answer)) e ∙ t)))
 
-  module _ (z : n ≡ 0) (masks : List ℕ) (room : mostHistories * historyFrames ≤ length masks) (y : HistoriesListed) (g : y ≡ historiesAnswer (x .plan) historyFrames (length masks)) {m : ℕ} (h : m ≡ numberOf (y .answer)) where
+  module _ (z : n ≡ 0) where
     read : (accepted (x .plan) ≡ true) × (planListing (x .plan) ≡ historiesListing text)
     read =
         let all = text-read text (sym (ap (λ (w : PlanRead). numberOf (w .answer)) e) ∙ sym f ∙ z) in
         (ap (λ (w : PlanRead). accepted (w .plan)) e ∙ all .0, ap (λ (w : PlanRead). planListing (w .plan)) e ∙ all .1)
 
-    pub print-outside : (m ≡ 0 → ⊥) → mostHistories * historyLineSize ≤ length s → {xs : List ℕ} → xs ≡ placed s 0 (refusalLine (y .answer)) → (refusalSize ≤ length xs) × (take refusalSize xs ≡ historiesListing text)
-    print-outside w big i =
-        let front = refusal-taken s (y .answer) (omega (arith, big)) i in
-        (front .0, front .1 ∙ ap (λ (v : HistoriesListed). refusalLine (v .answer)) g ∙ plan-outside (x .plan) (read .0) masks room (λ t. w (h ∙ ap (λ (v : HistoriesListed). numberOf (v .answer)) g ∙ t)) ∙ read .1)
+    pub print-outside :
+        limitsOk (x .plan .nodes) historyFrames ≡ false → mostHistories * historyLineSize ≤ length s → {xs : List ℕ} →
+        xs ≡ placed s 0 (refusalLine NodesOrLength) →
+        (refusalSize ≤ length xs) × (take refusalSize xs ≡ historiesListing text)
+    print-outside l big i =
+        let front = refusal-taken s NodesOrLength (omega (arith, big)) i in
+        (front .0, front .1 ∙ plan-outside (x .plan) l ∙ read .1)
 
-    module _ (w : m ≡ 0) where
-      within : limitsOk (x .plan .nodes) historyFrames ≡ true
-      within = plan-within (x .plan) (read .0) masks room (sym (ap (λ (v : HistoriesListed). numberOf (v .answer)) g) ∙ sym h ∙ w)
+    module _ (l : limitsOk (x .plan .nodes) historyFrames ≡ true) {r : ℕ} (g : r ≡ readPeriod text) where
+      -- the period that the reading finds is R
+      period-is : r ≡ period (x .plan)
+      unfolding readPeriod
+      period-is = g ∙ ap (λ (w : PlanRead). acceptedPeriod (w .plan)) (sym e) ∙ accepted-period (x .plan) (read .0)
 
-      count-is : y .count ≡ length (planHistories (x .plan) historyFrames)
-      count-is = ap (λ (v : HistoriesListed). v .count) g ∙ count-printed (x .plan) (read .0) masks room within .0
+      pub print-fits : length (flatten (histories (x .plan .nodes) r historyFrames)) ≤ mostHistories * historyFrames
+      print-fits = masks-few (x .plan) l period-is
 
-      pub print-count : y .count ≤ mostHistories
-      print-count = omega (arith, count-is, count-printed (x .plan) (read .0) masks room within .1)
+      module _ {size : ℕ} (h : size ≡ length (flatten (histories (x .plan .nodes) r historyFrames))) where
+        count-is : size / historyFrames ≡ length (planHistories (x .plan) historyFrames)
+        count-is = count-few (x .plan) l period-is h .0
 
-      pub print-lines :
-          mostHistories * historyLineSize ≤ length s → {ms xs : List ℕ} →
-          ms ≡ historiesPlace (x .plan) historyFrames masks →
-          xs ≡ placed s 0 (joined (historyLineAt ms) (y .count)) →
-          (y .count * historyLineSize ≤ length xs) × (take (y .count * historyLineSize) xs ≡ historiesListing text)
-      print-lines big {ms} i j =
-          let front = front-taken s (joined (historyLineAt ms) (y .count)) (y .count * historyLineSize) (lines-long ms (y .count)) (omega (arith, big, print-count)) j in
-          (front .0, front .1 ∙ ap₂ (λ (l : List ℕ) (k : ℕ). joined (historyLineAt l) k) i count-is ∙ lines-printed (x .plan) (read .0) masks room within ∙ read .1)
+        pub print-count : size / historyFrames ≤ mostHistories
+        print-count = omega (arith, count-is, count-few (x .plan) l period-is h .1)
+
+        pub print-lines :
+            mostHistories * historyLineSize ≤ length s → (masks : List ℕ) {ms xs : List ℕ} →
+            ms ≡ placed masks 0 (flatten (histories (x .plan .nodes) r historyFrames)) →
+            xs ≡ placed s 0 (joined (historyLineAt ms) (size / historyFrames)) →
+            (size / historyFrames * historyLineSize ≤ length xs) × (take (size / historyFrames * historyLineSize) xs ≡ historiesListing text)
+        print-lines big masks {ms} i j =
+            let front = front-taken s (joined (historyLineAt ms) (size / historyFrames)) (size / historyFrames * historyLineSize) (lines-long ms (size / historyFrames)) (omega (arith, big, print-count)) j in
+            (front .0, front .1 ∙ ap₂ (λ (l : List ℕ) (k : ℕ). joined (historyLineAt l) k) i count-is ∙ lines-printed (x .plan) l period-is masks ∙ read .1)

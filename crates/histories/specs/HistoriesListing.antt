@@ -11,7 +11,8 @@ use Rattle.column.specs.Row.{row}
 use Rattle.plan.specs.declared.Plan.{Plan}
 use Rattle.plan_grammar.specs.Meant.{planOf}
 use Rattle.plan_grammar.specs.Refused.{textRefusal}
-use Rattle.history.specs.Answers.{limitsOk, planHistories}
+use Rattle.history_masks.specs.Limits.{limitsOk}
+use Rattle.history.specs.Answers.{planHistories}
 use Rattle.run_line.specs.Line.{maskWidth, refusalLine}
 
 -- "those of length 3"

@@ -4,10 +4,11 @@ ghost use mathlib.Core.List.{_∷_, []};
 ghost use Prim.Native.Nat.{_*_, _≤_};
 ghost use lib.ListN.{length, take};
 ghost use Rattle.array.specs.Index.{joined, from};
-ghost use Rattle.array.specs.Place.{placed};
+ghost use Rattle.array.specs.Code.{placed};
 ghost use Rattle.column.specs.Row.{row};
 ghost use Rattle.histories.specs.HistoriesListing.{historyFrames, historyWidths, historiesListing};
 ghost use Rattle.histories.specs.Code.{mostHistories, historyLineSize};
+use answer::Answer;
 use libc::STDOUT_FILENO;
 
 // The frames of a history that is printed, the column of a mask, a line with its line feed.
@@ -20,16 +21,13 @@ const LINE: usize = FRAMES * MASK + 1;
 // More histories than any plan has.
 const MOST: usize = 4096;
 
-// More than the longest plan text, so that a longer file is seen to be too long.
-const TEXT: usize = plan_line::Line::TEXT + 1;
-
 fn write_history(out: &mut [u8], first: u8, second: u8, third: u8)
     requires { ⌜ length (now out) ≡ historyLineSize ⌝ }
     ensures { λ _. ⌜ now (out .exit) ≡ row historyWidths (first ∷ second ∷ third ∷ []) ⌝ }
 {
-    run_line::step::put(out, 0, MASK, first as u64);
-    run_line::step::put(out, MASK, MASK, second as u64);
-    run_line::step::put(out, 2 * MASK, MASK, third as u64);
+    column_write::step::put(out, 0, MASK, first as u64);
+    column_write::step::put(out, MASK, MASK, second as u64);
+    column_write::step::put(out, 2 * MASK, MASK, third as u64);
     out[FRAMES * MASK] = b'\n';
 }
 
@@ -56,35 +54,22 @@ fn print(text: &[u8], masks: &mut [u8], out: &mut [u8]) -> usize
     requires { ⌜ (mostHistories * historyFrames ≤ length (now masks)) × (mostHistories * historyLineSize ≤ length (now out)) ⌝ }
     ensures { λ r. ⌜ (r ≤ length (now (out .exit))) × (take r (now (out .exit)) ≡ historiesListing (now (text .entry))) ⌝ }
 {
-    let read = plan_text::read(text);
+    let mut period: usize = 0;
+    let read = plan_text::step::read(text, &mut period);
     let refused = read.answer;
     if refused.number() != 0 {
         run_line::step::write_refusal(out, refused);
         return run_line::step::REFUSAL;
     }
-    let plan = read.plan;
-    let listed = history::histories(plan, FRAMES, masks);
-    let answer = listed.answer;
-    if answer.number() != 0 {
-        run_line::step::write_refusal(out, answer);
+    let nodes = read.plan.nodes;
+    if !history_search::step::limits_ok(nodes, FRAMES) {
+        run_line::step::write_refusal(out, Answer::NodesOrLength);
         return run_line::step::REFUSAL;
     }
-    let count = listed.count;
+    let size = history_search::step::put_all(nodes, period, FRAMES, masks);
+    let count = size / FRAMES;
     write_histories(masks, count, out);
     count * LINE
-}
-
-// A file that cannot be opened counts as empty.
-fn read_plan(text: &mut [u8]) -> usize
-    ensures { λ r. ⌜ r ≤ length (now (text .exit)) ⌝ }
-{
-    let file = os::open_read(b"plan.txt");
-    if file < 0 {
-        return 0;
-    }
-    let n = io::read_full(file, text);
-    libc::close(file);
-    n
 }
 
 fn show(text: &[u8], masks: &mut [u8], out: &mut [u8])
@@ -95,10 +80,10 @@ fn show(text: &[u8], masks: &mut [u8], out: &mut [u8])
 }
 
 fn main() {
-    let mut text = [0u8; TEXT];
+    let mut text = [0u8; plan_file::TEXT];
     let mut masks = [0u8; MOST * FRAMES];
     let mut out = [0u8; MOST * LINE];
-    let n = read_plan(&mut text);
+    let n = plan_file::read(&mut text);
     show(
         &text[0..n],
         &mut masks[0..MOST * FRAMES],

@@ -16,10 +16,10 @@ use Rattle.array.proofs.IndexLaws.{howMany-every, allIn-take}
 use Rattle.array.proofs.PlacesLaws.{from-held, from-same}
 use Rattle.plan.specs.Known.{period}
 use Rattle.plan.proofs.AcceptedLaws.{shape-of-accepted}
-use Rattle.system.proofs.AtMostTwoLaws.{zero-good}
+use Rattle.system.proofs.DemandLaws.{zero-good}
 use Rattle.history.specs.Answers.{planHistories}
-use Rattle.history.specs.Histories.{worksAfter, mostWork, lived, sequences, selected, histories}
-use Rattle.history.proofs.HistoryLaws.{works-good}
+use Rattle.history_masks.specs.Histories.{worksAfter, mostWork, lived, sequences, selected, histories}
+use Rattle.history_masks.proofs.HistoryLaws.{works-good}
 use Rattle.history.specs.Listed.{Precedes, Ascending, InOrder, Once, Exactly, NoneBad, InPlace}
 
 -- ---- what is in a list

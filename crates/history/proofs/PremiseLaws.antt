@@ -18,14 +18,13 @@ use Rattle.plan.specs.Accepted.{accepted}
 use Rattle.plan.specs.Sizes.{sizesOf}
 use Rattle.system.specs.Fault.{faultsSize}
 use Rattle.system.specs.Counts.{isWorking}
-use Rattle.system.specs.Frame.{maskOk, lengthsOk}
+use Rattle.system.specs.FrameCall.{maskOk, lengthsOk}
 use Rattle.system.specs.Demand.{Call, masks, callLengths, callTests, isFrame, goodIn, MostGood, Premise, OnePlan}
-use Rattle.system.proofs.DemandLaws.{good-finally, demand3}
-use Rattle.system.proofs.AtMostTwoLaws.{mask-below}
-use Rattle.history.specs.Histories.{worksAfter, mostWork, lived}
+use Rattle.system.proofs.DemandLaws.{good-finally, demand3, mask-below}
+use Rattle.history_masks.specs.Histories.{worksAfter, mostWork, lived}
 use Rattle.history.specs.Answers.{planHistories}
 use Rattle.history.specs.Listed.{historyOf, SameWorking, PremiseListed, LivedThrough, SomeCalls}
-use Rattle.history.proofs.HistoryLaws.{works-good}
+use Rattle.history_masks.proofs.HistoryLaws.{works-good}
 use Rattle.history.proofs.ListedLaws.{exactly}
 
 -- ---- demand 3's premise, in the words of a history
@@ -69,7 +68,7 @@ module _ (p : Plan) where
     masks-fit (c ∷ cs) one =
         let later : allIn (λ mask. ltb mask (2 ^ p .nodes)) (historyOf cs) ≡ true = masks-fit cs (one .1) in
         split (isFrame c)
-        (λ e. rw e (and-both (lt-ltb (c .mask) (2 ^ p .nodes) (mask-below p accept c (one .0) e)) later))
+        (λ e. rw e (and-both (lt-ltb (c .mask) (2 ^ p .nodes) (mask-below p c (one .0) e)) later))
         (λ e. rw e later)
 
 pub premise-listed : PremiseListed

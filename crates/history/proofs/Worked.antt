@@ -9,10 +9,10 @@ use Rattle.array.specs.Index.{howMany, joined, allIn}
 use Rattle.array.specs.Bit.{bit}
 use Rattle.array.proofs.TestLaws.{split, clash, and-left}
 use Rattle.system.specs.Counts.{countAfter, goodCount}
-use Rattle.history.specs.Code.{historiesAfter}
-use Rattle.history.specs.Histories.{worksAfter, mostWork, lived, sequences, selected, histories}
-use Rattle.history.proofs.HistoryLaws.{histories-end, histories-step}
-use Rattle.history.proofs.BoundLaws.{halfMask, most-half}
+use Rattle.history_masks.specs.Code.{historiesAfter}
+use Rattle.history_masks.specs.Histories.{worksAfter, mostWork, lived, sequences, selected, histories}
+use Rattle.history_masks.proofs.HistoryLaws.{histories-end, histories-step}
+use Rattle.history_masks.proofs.BoundLaws.{halfMask, most-half}
 use Rattle.history.proofs.ListedLaws.{none-lived}
 
 -- plan K: three nodes, R = 3 (document 01's short table, row 1). All frames good, or one and the same node bad in some of the three: 1 + 3 × 7

@@ -1,5 +1,4 @@
 -- What the call answers.
-use mathlib.Core.Bool.{Bool, _&&_}
 use mathlib.Core.List.{List, [], _∷_, _++_, flatten}
 use Prim.Native.Nat.{ℕ, _*_}
 use lib.Dec.{leb}
@@ -9,20 +8,11 @@ use Rattle.plan.specs.declared.Plan.{Plan}
 use Rattle.plan.specs.Known.{period}
 use Rattle.plan.specs.Accepted.{accepted}
 use Rattle.history.specs.declared.HistoriesListed.{HistoriesListed}
-use Rattle.history.specs.Histories.{histories}
+use Rattle.history_masks.specs.Histories.{histories}
+use Rattle.history_masks.specs.Limits.{limitsOk}
 
 unfoldable pub planHistories : Plan → ℕ → List (List ℕ)
 planHistories p k = histories (p .nodes) (period p) k
-
--- "at most 5 nodes and a length of 1 to 4 frames"
-abbrev pub mostHistoryNodes : ℕ
-mostHistoryNodes = 5
-
-abbrev pub mostHistoryFrames : ℕ
-mostHistoryFrames = 4
-
-unfoldable pub limitsOk : ℕ → ℕ → Bool
-limitsOk nodes k = leb nodes mostHistoryNodes && leb 1 k && leb k mostHistoryFrames
 
 -- 7; "11, if the node count or length is outside these limits, after 7 and before 8"; "a short buffer is refusal 8": one of fewer bytes than the histories have masks
 unfoldable pub historiesTests : Plan → ℕ → ℕ → List Test

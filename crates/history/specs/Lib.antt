@@ -1,4 +1,2 @@
-pub mod Histories
 pub mod Answers
 pub mod Listed
-pub mod Code

@@ -13,7 +13,7 @@ use Rattle.plan.specs.Accepted.{accepted}
 use Rattle.system.specs.System.{powerOn}
 use Rattle.system.specs.Counts.{isWorking}
 use Rattle.system.specs.Demand.{Call, isFrame, finally, masks, Premise, OnePlan, Tolerated}
-use Rattle.history.specs.Histories.{worksAfter, lived, histories}
+use Rattle.history_masks.specs.Histories.{worksAfter, lived, histories}
 use Rattle.history.specs.Answers.{planHistories}
 
 -- ---- "Each comes one time, ascending as masks with the first frame leading."

@@ -5,8 +5,6 @@ ghost use Rattle.history.specs.Answers.{historiesAnswer, historiesPlace}
 use answer::Answer;
 use plan::Plan;
 
-pub mod step;
-
 pub struct HistoriesListed {
     pub answer: Answer,
     pub count: usize,
@@ -24,21 +22,20 @@ pub fn histories(plan: Plan, frames: usize, out: &mut [u8]) -> HistoriesListed
         };
     }
     let nodes = plan.nodes;
-    if !step::limits_ok(nodes, frames) {
+    if !history_search::step::limits_ok(nodes, frames) {
         return HistoriesListed {
             answer: Answer::NodesOrLength,
             count: 0,
         };
     }
-    let most = step::most_masks(nodes);
-    let count = step::count(most, nodes, period, 0, 0, frames);
+    let count = history_search::step::count_all(nodes, period, frames);
     if out.len() < count * frames {
         return HistoriesListed {
             answer: Answer::WrongLength,
             count: 0,
         };
     }
-    step::put(most, nodes, period, 0, 0, frames, out, 0);
+    history_search::step::put_all(nodes, period, frames, out);
     HistoriesListed {
         answer: Answer::Done,
         count,

@@ -12,7 +12,7 @@ use lib.Seq.{length-take-le, take-nil, take-append-le, take-append-add, drop-app
 use borrow.Author.Tests.{lt-ltb, ltb-true, ltb-false}
 use borrow.Rule.Slice.PartMut.{putMid, same-len-mid}
 use Rattle.array.specs.Index.{joined}
-use Rattle.array.specs.Place.{placed}
+use Rattle.array.specs.Code.{placed}
 use Rattle.array.proofs.TestLaws.{split}
 use Rattle.answer.specs.declared.Answer.the-variants.{RunLine}
 use Rattle.answer.specs.Refusal.{numberOf}

@@ -18,16 +18,20 @@ use Rattle.plan_grammar.specs.Meant.{zeroPlan, planOf}
 use Rattle.plan_grammar.specs.Written.{planText}
 use Rattle.plan_grammar.specs.Earlier.{refusalBefore, NotFew}
 use Rattle.plan_grammar.proofs.EarlierLaws.{text-kept}
-use Rattle.plan_text.specs.Answers.{readAnswer, writeTests}
+use Rattle.plan_text.specs.Answers.{readAnswer}
+use Rattle.plan_text_write.specs.Answers.{writeTests}
 use Rattle.memory.specs.Node.{poweredOn}
 use Rattle.node.specs.Answers.{lengthTests}
 use Rattle.system.specs.declared.System.{System}
 use Rattle.system.specs.System.{powerOn}
-use Rattle.system.specs.Frame.{maskOk, countsOk, lengthsOk, frameTests, singleTests, workingTests, equalTests}
+use Rattle.system.specs.CountCalls.{workingTests, equalTests}
+use Rattle.system.specs.Single.{singleTests}
+use Rattle.system.specs.FrameCall.{maskOk, countsOk, lengthsOk, frameTests}
 use Rattle.run_line.specs.Line.{printedSize, refusalLine}
 use Rattle.run_line.specs.Listing.{runListing, listing}
 use Rattle.lines.specs.declared.Run.{Run}
-use Rattle.listing.specs.Answers.{zeroRun, startOf, startAnswer, lineTest, nextTests}
+use Rattle.listing_start.specs.Answers.{zeroRun, startOf, startAnswer}
+use Rattle.listing.specs.Answers.{lineTest, nextTests}
 
 -- ---- records
 

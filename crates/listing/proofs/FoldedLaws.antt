@@ -33,12 +33,14 @@ use Rattle.system.specs.declared.System.{System}
 use Rattle.system.specs.System.{powerOn}
 use Rattle.system.specs.Fault.{bad}
 use Rattle.system.specs.Counts.{countAfter, goodAfter}
-use Rattle.system.specs.Frame.{goodOf, systemAfter, countsOk}
+use Rattle.system.specs.Frame.{goodOf, systemAfter}
+use Rattle.system.specs.FrameCall.{countsOk}
 use Rattle.run_line.specs.Line.{maskIn, runLineSize, runNumbers, printedSize, refusalLine}
 use Rattle.run_line.specs.Listing.{mostRunLines, systemNext, singleAfter, frameLine, readLine, frames, printed, lineLeft, runListing, listing}
 use Rattle.lines.specs.declared.Run.{Run}
 use Rattle.lines.specs.Run.{runAfter, nextNumbers}
-use Rattle.listing.specs.Answers.{startOf, startAnswer, lineTest, nextTests, taken, runTaken, nextAnswer, placeTaken, nextPlace, isDone}
+use Rattle.listing_start.specs.Answers.{startOf, startAnswer, isDone}
+use Rattle.listing.specs.Answers.{lineTest, nextTests, taken, runTaken, nextAnswer, placeTaken, nextPlace}
 use Rattle.listing.specs.Folded.{blank, nextOf, printedBy, folded, byBlocks}
 use Rattle.run_line.proofs.WritingLaws.{frame-length}
 use Rattle.lines.proofs.StepLaws.{empty-of-length, line-early, line-in-time}

@@ -1,41 +1,18 @@
--- What the calls on a run answer, refused or not. Beside a refusal a state handed in and the lent buffer stay as they were, and a new state is all zero.
-use mathlib.Core.Bool.{Bool, cond, _||_}
+-- What the next line of a run answers, refused or not. Beside a refusal the state handed in and the lent buffer stay as they were.
+use mathlib.Core.Bool.{cond, _||_}
 use mathlib.Core.List.{List, [], _∷_, _++_}
-use mathlib.Core.Option.{Option, none, some, Option·getD}
+use mathlib.Core.Option.{Option, none, some}
 use Prim.Native.Nat.{ℕ, _+_, min}
 use lib.Dec.{eqb, leb}
 use lib.ListN.{length, drop}
-use Rattle.answer.specs.declared.Answer.{Answer}
-use Rattle.answer.specs.declared.Answer.the-variants.{Done}
-use Rattle.answer.specs.Refusal.{numberOf}
-use Rattle.answer.specs.Tests.{Test, test, answered, ifPassed, unlessRefused}
-use Rattle.plan.specs.declared.Plan.{Plan}
-use Rattle.plan.specs.Known.{period}
+use Rattle.answer.specs.Tests.{Test, test, answered, ifPassed}
 use Rattle.plan.specs.Accepted.{accepted}
-use Rattle.plan_text.specs.declared.TextWritten.{TextWritten}
-use Rattle.plan_grammar.specs.Meant.{zeroPlan, planOf}
-use Rattle.plan_grammar.specs.Refused.{textRefusal}
-use Rattle.memory.specs.Node.{zeroMemory, poweredOn}
-use Rattle.system.specs.System.{zeroSystem, powerOn}
-use Rattle.system.specs.Frame.{countsOk}
-use Rattle.lines.specs.declared.Run.{Run}
-use Rattle.listing.specs.declared.Started.{Started}
-use Rattle.run_line.specs.Line.{printedSize, refusalLine, refusalSize}
+use Rattle.system.specs.FrameCall.{countsOk}
+use Rattle.run_line.specs.Line.{printedSize}
 use Rattle.run_line.specs.Listing.{mostRunLines, isSome, frameLine}
+use Rattle.lines.specs.declared.Run.{Run}
 use Rattle.lines.specs.declared.Printed.{Printed}
 use Rattle.lines.specs.Run.{runAfter, nextNumbers}
-
--- ---- start
-
-abbrev pub zeroRun : Run
-zeroRun = record { plan = zeroPlan; period = 0; system = zeroSystem; single = zeroMemory; frame = 0 }
-
--- a run of an accepted plan at power-on
-unfoldable pub startOf : Plan → Run
-startOf p = record { plan = p; period = period p; system = powerOn p; single = poweredOn p; frame = 0 }
-
-unfoldable pub startAnswer : List ℕ → Started
-startAnswer s = record { answer = Option·getD (textRefusal s) Done; run = unlessRefused (textRefusal s) (startOf (planOf s)) zeroRun }
 
 -- ---- the next line, of what is left of the run
 
@@ -76,21 +53,3 @@ placeTaken r (some l) out =
 
 unfoldable pub nextPlace : Run → List ℕ → List ℕ → List ℕ
 nextPlace r rest out = placeTaken r (taken r rest (length out)) out
-
--- ---- the line of a refusal; an answer that is none has no line
-
-abbrev pub isDone : Answer → Bool
-isDone a = eqb (numberOf a) 0
-
-unfoldable pub refusalTests : ℕ → List Test
-refusalTests room = test 8 (leb refusalSize room) ∷ []
-
-unfoldable pub refusalWritten : Answer → ℕ → TextWritten
-refusalWritten a room =
-    record {
-      answer = answered (refusalTests room);
-      count = ifPassed (refusalTests room) (cond (isDone a) 0 refusalSize) 0;
-    }
-
-unfoldable pub refusalPlace : Answer → List ℕ → List ℕ
-refusalPlace a out = ifPassed (refusalTests (length out)) (cond (isDone a) out (refusalLine a ++ drop refusalSize out)) out

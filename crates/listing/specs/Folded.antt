@@ -10,7 +10,8 @@ use Rattle.run_line.specs.Listing.{mostRunLines}
 use Rattle.lines.specs.declared.Run.{Run}
 use Rattle.lines.specs.declared.Printed.{Printed}
 use Rattle.lines.specs.Blocks.{blocksListing}
-use Rattle.listing.specs.Answers.{startAnswer, nextAnswer, nextPlace, isDone}
+use Rattle.listing_start.specs.Answers.{startAnswer, isDone}
+use Rattle.listing.specs.Answers.{nextAnswer, nextPlace}
 
 -- a buffer for a line
 abbrev pub blank : Run → List ℕ

@@ -1,4 +1,4 @@
-// The run listing: start from a plan text, the next line of a run, a refusal's line. Each call answers any state; the steps under them are in `run_line` and `lines`.
+// The run listing: the next line of a run. The call answers any state; the steps under it are in `run_line` and `lines`.
 ghost use mathlib.Core.Path.{_≡_};
 ghost use mathlib.Core.Bool.{true};
 ghost use Prim.Native.Nat.{_+_, min};
@@ -9,42 +9,11 @@ ghost use Rattle.plan.specs.Accepted.{accepted};
 ghost use Rattle.run_line.specs.Line.{printedSize};
 ghost use Rattle.run_line.specs.Listing.{mostRunLines};
 ghost use Rattle.lines.specs.Run.{nextNumbers};
-ghost use Rattle.listing.specs.Answers.{startAnswer, placeTaken, nextAnswer, nextPlace, refusalWritten, refusalPlace};
+ghost use Rattle.listing.specs.Answers.{placeTaken, nextAnswer, nextPlace};
 ghost use Rattle.lines.specs.Code.{lineTaken};
 use answer::Answer;
 use lines::Printed;
 use lines::Run;
-use plan_text::TextWritten;
-use system::System;
-
-pub struct Started {
-    pub answer: Answer,
-    pub run: Run,
-}
-
-// A refused text has the all-zero plan and a period of 0, and so the all-zero record and the all-zero memory.
-pub fn start(text: &[u8]) -> Started
-    ensures { λ r. ⌜ r ≡ startAnswer (now (text .entry)) ⌝ }
-{
-    let mut period: usize = 0;
-    let read = plan_text::step::read(text, &mut period);
-    let answer = read.answer;
-    let plan = read.plan;
-    let mut system = System::zero();
-    let mut single = memory::zero_memory();
-    if period != 0 {
-        system = System::started(plan, period);
-        single = memory::step::power_on(plan);
-    }
-    let run = Run {
-        plan,
-        period,
-        system,
-        single,
-        frame: 0,
-    };
-    Started { answer, run }
-}
 
 // A call that prints nothing and leaves the run as it is.
 fn nothing(answer: Answer, run: Run) -> Printed
@@ -119,27 +88,4 @@ pub fn next(run: Run, rest: &[u8], out: &mut [u8]) -> Printed
         return nothing(Answer::Done, run);
     }
     next_line(run, period, rest, &mut out[0..size])
-}
-
-// The line of a refusal fills the first bytes of the buffer; of an answer that is none nothing is written.
-pub fn refusal(answer: Answer, out: &mut [u8]) -> TextWritten
-    ensures { λ r. ⌜ (r ≡ refusalWritten answer (length (now (out .entry)))) × (now (out .exit) ≡ refusalPlace answer (now (out .entry))) ⌝ }
-{
-    if out.len() < run_line::step::REFUSAL {
-        return TextWritten {
-            answer: Answer::WrongLength,
-            count: 0,
-        };
-    }
-    if answer.number() == 0 {
-        return TextWritten {
-            answer: Answer::Done,
-            count: 0,
-        };
-    }
-    run_line::step::write_refusal(out, answer);
-    TextWritten {
-        answer: Answer::Done,
-        count: run_line::step::REFUSAL,
-    }
 }

@@ -2,13 +2,16 @@
 ghost use mathlib.Core.Path.{_≡_};
 ghost use mathlib.Core.Bool.{true, cond};
 ghost use mathlib.Core.Option.{some};
-ghost use Prim.Native.Nat.{_+_, _*_, _<_, _≤_};
-ghost use lib.ListN.{length};
+ghost use Prim.Native.Nat.{ℕ, _+_, _*_, _<_, _≤_};
+ghost use lib.ListN.{length, getD};
+ghost use Rattle.array.specs.Bit.{bit};
 ghost use Rattle.plan.specs.Limits.{mostNodes, mostFrames, mostCells};
 ghost use Rattle.plan.specs.Accepted.{accepted};
-ghost use Rattle.ballot.specs.Code.{Told};
-ghost use Rattle.memory.specs.Size.{counterSize, patternSize, cellAt, messageSize, binBytes, mailboxSize};
-ghost use Rattle.memory.specs.Node.{messageOf, counterFrom, cellFrom, voted as votedOf, voteAgreement};
+ghost use Rattle.ballot.specs.Code.{Packs};
+ghost use Rattle.memory.specs.Size.{cellAt, messageSize, binBytes, mailboxSize};
+ghost use Rattle.memory.specs.Node.{messageOf, voted as votedOf, voteAgreement};
+ghost use Rattle.mailbox.specs.Code.{wordFrom, heardOf};
+use ballot::Words;
 use memory::Memory;
 use memory::Vote;
 use plan::Plan;
@@ -34,11 +37,11 @@ pub fn message_with(
 {
     let counter = memory.counter;
     let g = memory::step::frame_before(counter, frames);
-    array::step::write2(out, 0, counter);
+    array::step::write_be2(out, 0, counter);
     let mut c: usize = 0;
     while c < cells {
         let x = sent(plan::step::is_voted(voted, g, c), memory.cells[c]);
-        array::step::write8(out, memory::step::cell_at(c), x);
+        array::step::write_be8(out, memory::step::cell_at(c), x);
         c += 1;
     }
 }
@@ -52,46 +55,65 @@ pub fn message(plan: Plan, memory: Memory, out: &mut [u8])
 
 // ---- bins
 
-// What the bin that starts at a place says of the counter, and of a cell.
-pub fn bin_counter(bytes: &[u8], at: usize) -> u64
-    requires { ⌜ at + counterSize ≤ length (now bytes) ⌝ }
-    ensures { λ r. ⌜ counterFrom (now (bytes .entry)) at ≡ some r ⌝ }
+// What the bin that starts at a place says of a word.
+fn bin_word(bytes: &[u8], at: usize, w: usize) -> u64
+    requires { ⌜ (w ≤ mostCells) × (at + cellAt w ≤ length (now bytes)) ⌝ }
+    ensures { λ r. ⌜ wordFrom (now (bytes .entry)) w at ≡ some r ⌝ }
 {
-    array::step::read2(bytes, at) as u64
+    if w == 0 {
+        return array::step::read_be2(bytes, at) as u64;
+    }
+    array::step::read_be8(bytes, at + memory::step::cell_at(w - 1))
 }
 
-pub fn bin_cell(bytes: &[u8], at: usize, c: usize) -> u64
-    requires { ⌜ (c < mostCells) × (at + cellAt c + patternSize ≤ length (now bytes)) ⌝ }
-    ensures { λ r. ⌜ cellFrom (now (bytes .entry)) c at ≡ some r ⌝ }
+// What one receiver hears of a word: of a node whose bit of the mask is set what its bin says, of another the word that is handed in. The first bin stands at `at`, the next `apart`
+// bytes further on.
+pub fn heard(
+    bytes: &[u8],
+    at: usize,
+    apart: usize,
+    mask: u64,
+    nodes: usize,
+    w: usize,
+    words: &[u64; Plan::NODES],
+) -> Words
+    requires { ⌜ (nodes ≤ mostNodes) × (w ≤ mostCells) × (at < 65536) × (apart < 65536) × ((j : ℕ) → j < nodes → bit mask j ≡ true → at + j * apart + cellAt w ≤ length (now bytes)) ⌝ }
+    ensures { λ r. ⌜ Packs (heardOf mask (λ j. wordFrom (now (bytes .entry)) w (at + j * apart)) (λ j. getD (now (words .entry)) j 0)) nodes (r .words) (r .count) ⌝ }
 {
-    array::step::read8(bytes, at + memory::step::cell_at(c))
-}
-
-// What the n bins of a mailbox say of the counter, and of a cell.
-fn counters(mailbox: &[u8], n: usize, cells: usize) -> [u64; Plan::NODES]
-    requires { ⌜ (n ≤ mostNodes) × (cells ≤ mostCells) × (n * binBytes cells ≤ length (now mailbox)) ⌝ }
-    ensures { λ r. ⌜ Told (λ j. counterFrom (now (mailbox .entry)) (j * binBytes cells)) n r ⌝ }
-{
-    let mut values = [0u64; Plan::NODES];
+    let mut all = [0u64; Plan::NODES];
     let mut j: usize = 0;
-    while j < n {
-        values[j] = bin_counter(mailbox, memory::step::bin_at(j, cells));
+    while j < nodes {
+        if array::step::is_set(mask, j) {
+            all[j] = bin_word(bytes, at + j * apart, w);
+        } else {
+            all[j] = words[j];
+        }
         j += 1;
     }
-    values
+    Words {
+        words: all,
+        count: nodes,
+    }
 }
 
-fn cells_at(mailbox: &[u8], n: usize, cells: usize, c: usize) -> [u64; Plan::NODES]
-    requires { ⌜ (n ≤ mostNodes) × (cells ≤ mostCells) × (c < cells) × (n * binBytes cells ≤ length (now mailbox)) ⌝ }
-    ensures { λ r. ⌜ Told (λ j. cellFrom (now (mailbox .entry)) c (j * binBytes cells)) n r ⌝ }
+// Every node's bit.
+const ALL: u64 = 127;
+
+// What the bins of a mailbox say of a word.
+fn words_in(mailbox: &[u8], nodes: usize, cells: usize, w: usize) -> Words
+    requires { ⌜ (nodes ≤ mostNodes) × (cells ≤ mostCells) × (w ≤ cells) × (nodes * binBytes cells ≤ length (now mailbox)) ⌝ }
+    ensures { λ r. ⌜ Packs (λ j. wordFrom (now (mailbox .entry)) w (j * binBytes cells)) nodes (r .words) (r .count) ⌝ }
 {
-    let mut values = [0u64; Plan::NODES];
-    let mut j: usize = 0;
-    while j < n {
-        values[j] = bin_cell(mailbox, memory::step::bin_at(j, cells), c);
-        j += 1;
-    }
-    values
+    let none = [0u64; Plan::NODES];
+    heard(
+        mailbox,
+        0,
+        memory::step::bin_size(cells),
+        ALL,
+        nodes,
+        w,
+        &none,
+    )
 }
 
 // ---- the vote
@@ -108,19 +130,22 @@ pub fn vote_with(
     requires { ⌜ (nodes ≤ mostNodes) × (0 < frames) × (frames ≤ mostFrames) × (width ≤ mostCells) × (length (now mailbox) ≡ nodes * binBytes width) ⌝ }
     ensures { λ r. ⌜ ((p : Plan) → p .voted ≡ now (voted .entry) → p .nodes ≡ nodes → p .frames ≡ frames → p .cells ≡ width → (r .memory ≡ votedOf p memory (now (mailbox .entry))) × (r .agreement ≡ voteAgreement p memory (now (mailbox .entry)))) ⌝ }
 {
-    let bins = counters(mailbox, nodes, width);
-    let decided = ballot::step::majority(&bins, nodes, nodes);
+    let bins = words_in(mailbox, nodes, width, 0);
+    let decided = ballot::step::majority(&bins.words, bins.count, nodes);
     let counter = ballot::step::or_own(frames, memory.counter, decided);
-    let mut agreement = ballot::step::agreement(&bins, nodes, decided);
+    let mut agreement = ballot::step::agreement(&bins.words, bins.count, decided);
     let frame = memory::step::frame_before(counter, frames);
     let mut cells = memory.cells;
     let mut c: usize = 0;
     while c < width {
         if plan::step::is_voted(voted, frame, c) {
-            let values = cells_at(mailbox, nodes, width, c);
-            let v = ballot::step::majority(&values, nodes, nodes);
+            let values = words_in(mailbox, nodes, width, c + 1);
+            let v = ballot::step::majority(&values.words, values.count, nodes);
             cells[c] = ballot::step::or_old(v, cells[c]);
-            agreement = ballot::step::min(agreement, ballot::step::agreement(&values, nodes, v));
+            agreement = ballot::step::min(
+                agreement,
+                ballot::step::agreement(&values.words, values.count, v),
+            );
         }
         c += 1;
     }

@@ -9,7 +9,7 @@ use native.Mathlib.Omega.{arith}
 use lib.ListN.{getD}
 use Rattle.array.proofs.LeastLaws.{least-below, least-of}
 use Rattle.plan.specs.declared.Plan.{Plan}
-use Rattle.plan.specs.Known.{votedIn}
+use Rattle.plan.specs.Tables.{votedIn}
 use Rattle.ballot.specs.Majority.{majority, agreement, holders}
 use Rattle.ballot.proofs.AgreementLaws.{agreement-of-most, agreement-half, agreement-value}
 use Rattle.memory.specs.declared.Memory.{Memory}

@@ -11,7 +11,7 @@ use borrow.Author.Tests.{ltb-true, ltb-false}
 use Rattle.array.proofs.TestLaws.{split}
 use Rattle.array.proofs.LeastLaws.{least-of}
 use Rattle.plan.specs.declared.Plan.{Plan}
-use Rattle.plan.specs.Known.{votedIn}
+use Rattle.plan.specs.Tables.{votedIn}
 use Rattle.ballot.specs.Majority.{majority, orOwn}
 use Rattle.ballot.proofs.AtMostTwoLaws.{majority-all, agreement-all, agreement-one}
 use Rattle.memory.specs.declared.Memory.{Memory}

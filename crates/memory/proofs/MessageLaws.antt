@@ -15,7 +15,7 @@ use Rattle.array.proofs.TestLaws.{split}
 use Rattle.array.proofs.PlacesLaws.{Holds, holds-left, holds-right, holds-within, joined-length, joined-holds, bin-of}
 use Rattle.array.proofs.WordLaws.{bytes-length, be-of-bytes, be-part}
 use Rattle.plan.specs.declared.Plan.{Plan}
-use Rattle.plan.specs.Known.{votedIn}
+use Rattle.plan.specs.Tables.{votedIn}
 use Rattle.memory.specs.declared.Memory.{Memory}
 use Rattle.memory.specs.Size.{counterSize, patternSize, cellAt, messageSize, binBytes, binSize, binAt}
 use Rattle.memory.specs.Node.{before, sentCell, messageOf, binOf, counterFrom, cellFrom, counterIn, cellIn}

@@ -20,16 +20,15 @@ use Rattle.array.proofs.PlacesLaws.{fill-out, fill-kept, joined-none, joined-mo
 use Rattle.array.proofs.WordLaws.{bytes-length}
 use Rattle.plan.specs.declared.Plan.{Plan}
 use Rattle.plan.specs.Limits.{mostCells}
-use Rattle.plan.specs.Known.{taskAt, votedIn}
+use Rattle.plan.specs.Tables.{taskAt, votedIn}
 use Rattle.plan.proofs.AcceptedLaws.{Shape}
 use Rattle.memory.specs.declared.Memory.{Memory}
 use Rattle.memory.specs.Size.{counterSize, patternSize, cellAt, binSize}
 use Rattle.task.specs.Task.{opValue, runTask, runTasks}
 use Rattle.ballot.specs.Majority.{backing, majority, agreement, orOwn}
-use Rattle.ballot.specs.Code.{packed, Told}
+use Rattle.ballot.specs.Code.{packed, Packs}
 use Rattle.memory.specs.Node.{computed, before, sentCell, messageOf, counterFrom, cellFrom, counterIn, cellIn, votedCounter, votedCell, voted, voteAgreement, setpoint}
-use Rattle.ballot.proofs.BinLaws.{told-majority}
-use Rattle.ballot.proofs.AgreementLaws.{told-agreement}
+use Rattle.ballot.proofs.PackedLaws.{packs-majority, packs-agreement}
 use Rattle.task.proofs.TaskLaws.{runTask-elsewhere}
 
 -- ---- the tasks of a frame
@@ -151,26 +150,26 @@ cellAfter p cells box g c =
 -- the values read are what the bins say
 module _ (p : Plan) (box : List ℕ) where
   pub counter-voted :
-      (m : Memory) {r : ℕ} {o : Option ℕ} (values : List ℕ) →
-      Told (λ j. counterFrom box (j * binSize p)) (p .nodes) values →
-      o ≡ majority (packed values (p .nodes)) (p .nodes) →
+      (m : Memory) {r n : ℕ} {o : Option ℕ} (values : List ℕ) →
+      Packs (λ j. counterFrom box (j * binSize p)) (p .nodes) values n →
+      o ≡ majority (packed values n) (p .nodes) →
       r ≡ orOwn (p .frames) (m .counter) o →
       r ≡ votedCounter p m box
   unfolding votedCounter counterIn
-  counter-voted m values t h k = k ∙ rw (h, told-majority _ (p .nodes) values t)
+  counter-voted m values t h k = k ∙ rw (h, packs-majority _ (p .nodes) t)
 
   pub cell-voted :
-      {now : List ℕ} {r : ℕ} {o : Option ℕ} (cells : List ℕ) (g c : ℕ) (values : List ℕ) →
+      {now : List ℕ} {r n : ℕ} {o : Option ℕ} (cells : List ℕ) (g c : ℕ) (values : List ℕ) →
       now ≡ fill (cellAfter p cells box g) c cells →
       getD (p .voted) (mostCells * g + c) false ≡ true →
-      Told (λ j. cellFrom box c (j * binSize p)) (p .nodes) values →
-      o ≡ majority (packed values (p .nodes)) (p .nodes) →
+      Packs (λ j. cellFrom box c (j * binSize p)) (p .nodes) values n →
+      o ≡ majority (packed values n) (p .nodes) →
       r ≡ Option·getD o (getD now c 0) →
       set now c r ≡ fill (cellAfter p cells box g) (c + 1) cells
   unfolding cellAfter cellIn votedIn
   cell-voted cells g c values n v t h k =
       let f : ℕ → ℕ = cellAfter p cells box g in
-      stored-next f c cells n (k ∙ rw (v, h, told-majority _ (p .nodes) values t, n, fill-out f c cells c 0 (omega arith)))
+      stored-next f c cells n (k ∙ rw (v, h, packs-majority _ (p .nodes) t, n, fill-out f c cells c 0 (omega arith)))
 
 -- the agreement on the cells: what is counted for a cell is its agreement, and the least so far
 abbrev pub agreedTo : Plan → List ℕ → ℕ → ℕ → ℕ → ℕ
@@ -178,25 +177,25 @@ agreedTo p box g first c = lesser first (least (votedIn p g) (λ d. agreement (c
 
 module _ (p : Plan) (box : List ℕ) where
   pub counter-agreed :
-      {r : ℕ} {o : Option ℕ} (values : List ℕ) →
-      Told (λ j. counterFrom box (j * binSize p)) (p .nodes) values →
-      o ≡ majority (packed values (p .nodes)) (p .nodes) →
-      r ≡ backing (packed values (p .nodes)) (p .nodes) o →
+      {r n : ℕ} {o : Option ℕ} (values : List ℕ) →
+      Packs (λ j. counterFrom box (j * binSize p)) (p .nodes) values n →
+      o ≡ majority (packed values n) (p .nodes) →
+      r ≡ backing (packed values n) n o →
       r ≡ agreement (counterIn p box) (p .nodes)
   unfolding counterIn
-  counter-agreed values t h k = told-agreement _ (p .nodes) values t h k
+  counter-agreed values t h k = packs-agreement _ (p .nodes) t h k
 
   module _ (g first c : ℕ) {now : ℕ} (h : now ≡ agreedTo p box g first c) where
     pub cell-agreed :
-        {r x : ℕ} {o : Option ℕ} (values : List ℕ) →
+        {r x n : ℕ} {o : Option ℕ} (values : List ℕ) →
         getD (p .voted) (mostCells * g + c) false ≡ true →
-        Told (λ j. cellFrom box c (j * binSize p)) (p .nodes) values →
-        o ≡ majority (packed values (p .nodes)) (p .nodes) →
-        x ≡ backing (packed values (p .nodes)) (p .nodes) o →
+        Packs (λ j. cellFrom box c (j * binSize p)) (p .nodes) values n →
+        o ≡ majority (packed values n) (p .nodes) →
+        x ≡ backing (packed values n) n o →
         r ≡ min now x →
         r ≡ agreedTo p box g first (c + 1)
     unfolding cellIn votedIn
-    cell-agreed values v t o k e = e ∙ least-taken (votedIn p g) _ first c h v (told-agreement _ (p .nodes) values t o k)
+    cell-agreed values v t o k e = e ∙ least-taken (votedIn p g) _ first c h v (packs-agreement _ (p .nodes) t o k)
 
     pub cell-unvoted : getD (p .voted) (mostCells * g + c) false ≡ false → now ≡ agreedTo p box g first (c + 1)
     unfolding votedIn

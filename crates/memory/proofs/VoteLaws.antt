@@ -14,7 +14,8 @@ use Rattle.array.specs.Index.{howMany, joined}
 use Rattle.array.proofs.TestLaws.{split}
 use Rattle.array.proofs.PlacesLaws.{fill-length, fill-in, fill-out}
 use Rattle.plan.specs.declared.Plan.{Plan}
-use Rattle.plan.specs.Known.{votedIn, knowTasks, knowVoted, knowFrame}
+use Rattle.plan.specs.Known.{knowTasks, knowVoted, knowFrame}
+use Rattle.plan.specs.Tables.{votedIn}
 use Rattle.plan.proofs.AcceptedLaws.{Shape}
 use Rattle.plan.proofs.KnownLaws.{voted-not, voted-past}
 use Rattle.memory.specs.declared.Memory.{Memory}

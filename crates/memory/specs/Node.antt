@@ -8,7 +8,7 @@ use Rattle.array.specs.Index.{fill, joined, lesser, least}
 use Rattle.array.specs.Word.{be, bytes}
 use Rattle.plan.specs.declared.Plan.{Plan}
 use Rattle.plan.specs.Limits.{mostCells}
-use Rattle.plan.specs.Known.{votedIn}
+use Rattle.plan.specs.Tables.{votedIn}
 use Rattle.memory.specs.declared.Memory.{Memory}
 use Rattle.memory.specs.Size.{counterSize, patternSize, cellAt, binAt}
 use Rattle.task.specs.Task.{runTasks}

@@ -16,7 +16,7 @@ use Rattle.array.proofs.IndexLaws.{allBelow-at, allBelow-all}
 use Rattle.word.specs.Word.{wordOf, wordAt}
 use Rattle.word.proofs.FieldLaws.{and-field, mask-step}
 use Rattle.numeral.specs.Numeral.{isDigit}
-use Rattle.numeral.specs.Part.{decimalFrom}
+use Rattle.numeral.specs.Code.{decimalFrom}
 
 -- each of the m lowest bytes is below a bound, and nothing is above them
 unfoldable pub Below : ℕ → ℕ → ℕ → Type 0

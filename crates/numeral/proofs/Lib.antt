@@ -1,3 +1,2 @@
 pub mod NumeralLaws
 pub mod EightLaws
-pub mod PartLaws

@@ -14,7 +14,7 @@ use Rattle.array.specs.Index.{allBelow}
 use Rattle.array.proofs.TestLaws.{split, clash, and-left, and-right}
 use Rattle.array.proofs.IndexLaws.{allBelow-more, allBelow-fails}
 use Rattle.numeral.specs.Numeral.{isDigit, decimal, isNumeral, numeralOf}
-use Rattle.numeral.specs.Part.{decimalFrom}
+use Rattle.numeral.specs.Code.{decimalFrom}
 
 second-or : (a b : Bool) → (a || b) ≡ true → a ≡ false → b ≡ true
 second-or true b e f = absurd (clash refl f)

@@ -1,3 +1,3 @@
 pub mod Numeral
 pub mod Answers
-pub mod Part
+pub mod Code

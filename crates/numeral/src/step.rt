@@ -6,7 +6,7 @@ ghost use Prim.Native.Nat.{_+_, _-_, _<_, _≤_};
 ghost use lib.ListN.{length, getD};
 ghost use Rattle.array.specs.Index.{allBelow};
 ghost use Rattle.numeral.specs.Numeral.{isDigit, numeralOf};
-ghost use Rattle.numeral.specs.Part.{decimalFrom};
+ghost use Rattle.numeral.specs.Code.{decimalFrom};
 ghost use Rattle.numeral.specs.Answers.{shown};
 use super::Number;
 
@@ -60,7 +60,7 @@ pub fn eight(d: &[u8], i: usize) -> Number
     requires { ⌜ i + 8 ≤ length (now d) ⌝ }
     ensures { λ r. ⌜ shown r ≡ cond (allBelow (λ k. isDigit (getD (now (d .entry)) (i + k) 0)) 8) (some (decimalFrom (now (d .entry)) i 8)) none ⌝ }
 {
-    let x = std::num::wrapping_sub_u64(word::step::read8(d, i), 0x3030303030303030);
+    let x = std::num::wrapping_sub_u64(word::step::read_le8(d, i), 0x3030303030303030);
     // A byte is at most 9 if neither it nor it with 118 more has its high bit.
     let y = std::num::wrapping_add_u64(x, 0x7676767676767676);
     if !(((x & 0x8080808080808080) == 0) & ((y & 0x8080808080808080) == 0)) {

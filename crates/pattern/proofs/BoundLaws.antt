@@ -8,24 +8,24 @@ use lib.Ieee.Bits.{nanBits-is, ofBits-toBits}
 use lib.Ieee.Fits.{neg-fits}
 use Rattle.pattern.specs.declared.WindLaw.{WindLaw}
 use Rattle.pattern.specs.Pattern.{isNanOf, valueOf, patternOf, limitOf, windLimitOf, windOf}
-use Rattle.pattern.specs.Constant.{finite, finiteUnsigned, Within}
+use Rattle.pattern.specs.Constant.{isFinite, finiteUnsigned, Within}
 use Rattle.pattern.proofs.FloatLaws.{not-below, not-lt, le-reflexive}
 use Rattle.pattern.proofs.PatternLaws.{limit-low, limit-high, limit-own}
 
-finite-no-nan : (x : Float) → T (finite x) → isNan x ≡ false
-unfolding finite isNan
+finite-no-nan : (x : Float) → T (isFinite x) → isNan x ≡ false
+unfolding isFinite isNan
 finite-no-nan nan h = absurd h
 finite-no-nan (inf s) h = refl
 finite-no-nan (fin s m e) h = refl
 
-finite-of-unsigned : (x : Float) → T (finiteUnsigned x) → T (finite x)
-unfolding finite finiteUnsigned
+finite-of-unsigned : (x : Float) → T (finiteUnsigned x) → T (isFinite x)
+unfolding isFinite finiteUnsigned
 finite-of-unsigned nan h = h
 finite-of-unsigned (inf s) h = h
 finite-of-unsigned (fin s m e) h = tt
 
-neg-finite : (x : Float) → T (finite x) → T (finite (neg x))
-unfolding finite neg
+neg-finite : (x : Float) → T (isFinite x) → T (isFinite (neg x))
+unfolding isFinite neg
 neg-finite nan h = h
 neg-finite (inf s) h = h
 neg-finite (fin s m e) h = tt
@@ -39,8 +39,8 @@ pub limit-within :
     (a : ℕ) (low high : Float) →
     T (fits binary64 low) →
     T (fits binary64 high) →
-    T (finite low) →
-    T (finite high) →
+    T (isFinite low) →
+    T (isFinite high) →
     T (le low high) →
     Within low high (limitOf a low high)
 limit-within a low high f g lf hf h = by (lt (valueOf a) low || isNanOf a) refl (lt high (valueOf a)) refl
@@ -79,5 +79,5 @@ pub wind-within :
     Within (neg (law .cap)) (law .cap) (windOf old a law)
 unfolding windOf windLimitOf
 wind-within old a law f u =
-    let c : T (finite (law .cap)) = finite-of-unsigned (law .cap) u in
+    let c : T (isFinite (law .cap)) = finite-of-unsigned (law .cap) u in
     limit-within _ (neg (law .cap)) (law .cap) (neg-fits binary64 (law .cap) f) f (neg-finite (law .cap) c) c (cap-order (law .cap) u)

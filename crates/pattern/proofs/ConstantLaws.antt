@@ -6,23 +6,23 @@ use lib.Dec.{T, ltb, leb, eqb}
 use borrow.Author.Tests.{leb-true, leb-false, le-ltb, lt-ltb}
 use lib.Ieee.{Float, Format, nan, inf, fin, binary64, ofBits, ofFields, odd, toBits, fits, isNan, lt, prec, low, hid, ones, top}
 use lib.Ieee.Bits.{ofBits-toBits}
-use Rattle.pattern.specs.Constant.{finite, finiteUnsigned}
+use Rattle.pattern.specs.Constant.{isFinite, finiteUnsigned}
 
-pub finite-between : (x : Float) → (lt x (inf false) && lt (inf true) x) ≡ finite x
-unfolding lt finite
+pub finite-between : (x : Float) → (lt x (inf false) && lt (inf true) x) ≡ isFinite x
+unfolding lt isFinite
 finite-between nan = refl
 finite-between (inf true) = refl
 finite-between (inf false) = refl
 finite-between (fin s m e) = refl
 
-pub finite-no-nan : (x : Float) → finite x ≡ true → T (not (isNan x))
-unfolding isNan finite
+pub finite-no-nan : (x : Float) → isFinite x ≡ true → T (not (isNan x))
+unfolding isNan isFinite
 finite-no-nan nan h = subst T (sym h) tt
 finite-no-nan (inf s) h = tt
 finite-no-nan (fin s m e) h = tt
 
-pub finite-of-unsigned : (x : Float) → finite x ≡ false → false ≡ finiteUnsigned x
-unfolding finite finiteUnsigned
+pub finite-of-unsigned : (x : Float) → isFinite x ≡ false → false ≡ finiteUnsigned x
+unfolding isFinite finiteUnsigned
 finite-of-unsigned nan h = refl
 finite-of-unsigned (inf s) h = refl
 finite-of-unsigned (fin s m e) h = absurd (subst T h tt)
@@ -37,14 +37,14 @@ odd-unsigned d s (suc q) k l = refl
 picked :
     (a b s : Bool) (v : Float) →
     finiteUnsigned v ≡ not s →
-    finite (cond a (cond b (inf s) nan) v) ≡ true →
+    isFinite (cond a (cond b (inf s) nan) v) ≡ true →
     finiteUnsigned (cond a (cond b (inf s) nan) v) ≡ not s
-unfolding finite
+unfolding isFinite
 picked true true s v h f = absurd (subst T (sym f) tt)
 picked true false s v h f = absurd (subst T (sym f) tt)
 picked false b s v h f = h
 
-fields-unsigned : (f : Format) (s : Bool) (x t : ℕ) → finite (ofFields f s x t) ≡ true → finiteUnsigned (ofFields f s x t) ≡ not s
+fields-unsigned : (f : Format) (s : Bool) (x t : ℕ) → isFinite (ofFields f s x t) ≡ true → finiteUnsigned (ofFields f s x t) ≡ not s
 unfolding ofFields
 fields-unsigned f s zero t h = odd-unsigned (prec f) s t 0 (low f)
 fields-unsigned f s (suc x) t h =
@@ -58,7 +58,7 @@ not-leb a b = go (leb a b) refl
     go false e = sym (lt-ltb b a (leb-false a b e))
 
 -- a finite value is unsigned where its pattern is below 2^63
-pub unsigned-below : (x : Float) → T (fits binary64 x) → finite x ≡ true → ltb (toBits binary64 x) (2 ^ 63) ≡ finiteUnsigned x
+pub unsigned-below : (x : Float) → T (fits binary64 x) → isFinite x ≡ true → ltb (toBits binary64 x) (2 ^ 63) ≡ finiteUnsigned x
 unfolding ofBits
 unsigned-below x f h =
     let b = toBits binary64 x in

@@ -5,10 +5,10 @@ use lib.Dec.{T}
 use lib.Ieee.{Float, nan, inf, fin, le}
 use Rattle.pattern.specs.Pattern.{valueOf}
 
-unfoldable pub finite : Float → Bool
-finite nan = false
-finite (inf s) = false
-finite (fin s m e) = true
+unfoldable pub isFinite : Float → Bool
+isFinite nan = false
+isFinite (inf s) = false
+isFinite (fin s m e) = true
 
 -- a finite value whose sign bit is 0: +0 is one, −0 is not
 unfoldable pub finiteUnsigned : Float → Bool

@@ -1,8 +1,7 @@
-// Arithmetic on patterns: a pattern is the 64 bits of an IEEE 754 binary64 value.
+// Arithmetic on patterns: a pattern is the 64 bits of an IEEE 754 binary64 value. Limit and Wind are in `limit`.
 ghost use mathlib.Core.Path.{_≡_};
-ghost use lib.Ieee.{lt};
-ghost use Rattle.pattern.specs.Constant.{finite, finiteUnsigned};
-ghost use Rattle.pattern.specs.Pattern.{isNanOf, valueOf, patternOf, sumOf, diffOf, scaleOf, limitOf, windLimitOf, windOf};
+ghost use Rattle.pattern.specs.Constant.{isFinite, finiteUnsigned};
+ghost use Rattle.pattern.specs.Pattern.{isNanOf, valueOf, patternOf, sumOf, diffOf, scaleOf};
 
 // Wind's two constants travel together.
 pub struct WindLaw {
@@ -54,48 +53,9 @@ pub fn scale(factor: f64, a: u64) -> u64
     pattern(factor * value(a))
 }
 
-// Patterns are compared as values: the order of their bits is another one.
-fn is_below(a: u64, low: f64) -> bool
-    ensures { λ r. ⌜ r ≡ lt (valueOf a) low ⌝ }
-{
-    value(a) < low
-}
-
-fn is_above(a: u64, high: f64) -> bool
-    ensures { λ r. ⌜ r ≡ lt high (valueOf a) ⌝ }
-{
-    value(a) > high
-}
-
-pub fn limit(a: u64, low: f64, high: f64) -> u64
-    ensures { λ r. ⌜ r ≡ limitOf a low high ⌝ }
-{
-    let nan = is_nan(a);
-    if is_below(a, low) | nan {
-        return pattern(low);
-    }
-    if is_above(a, high) {
-        return pattern(high);
-    }
-    a
-}
-
-// The limiting step of Wind.
-pub fn wind_limit(raw: u64, law: WindLaw) -> u64
-    ensures { λ r. ⌜ r ≡ windLimitOf raw law ⌝ }
-{
-    limit(raw, -law.cap, law.cap)
-}
-
-pub fn wind(old: u64, a: u64, law: WindLaw) -> u64
-    ensures { λ r. ⌜ r ≡ windOf old a law ⌝ }
-{
-    wind_limit(pattern(value(old) + law.rate * value(a)), law)
-}
-
 // Which constants a plan allows.
 pub fn is_finite(x: f64) -> bool
-    ensures { λ r. ⌜ r ≡ finite x ⌝ }
+    ensures { λ r. ⌜ r ≡ isFinite x ⌝ }
 {
     let top = f64::from_bits(0x7ff0_0000_0000_0000);
     (x < top) & (-top < x)

@@ -16,7 +16,8 @@ use Rattle.plan.specs.declared.Op.the-variants.{Take, Sum, Diff, Scale, 
 use Rattle.plan.specs.declared.Task.{Task}
 use Rattle.plan.specs.declared.Plan.{Plan}
 use Rattle.plan.specs.Limits.{leastNodes, mostNodes, mostFrames, mostCells, mostSensors, mostActuators, mostTasks}
-use Rattle.plan.specs.Known.{unusedTask, taskAt, votedIn, reads, period}
+use Rattle.plan.specs.Known.{reads, period}
+use Rattle.plan.specs.Tables.{unusedTask, taskAt, votedIn}
 use Rattle.plan.specs.Accepted.{headerOk, constantsOk, opOk, taskOk, isZeroTake, isUnused, notFalling, taskEntry, initialEntry, voteEntry, actuatorEntry, entriesOk, opStorable, storable, wellFormed, accepted}
 
 -- what `wellFormed` says, and no more: the laws `shape-of` and `wellFormed-of`

@@ -24,7 +24,7 @@ use Rattle.plan.specs.declared.Op.{Op}
 use Rattle.plan.specs.declared.Op.the-variants.{Take, Sum, Diff, Scale, Limit, Wind, Cam}
 use Rattle.plan.specs.declared.Task.{Task}
 use Rattle.plan.specs.declared.Plan.{Plan}
-use Rattle.plan.specs.Known.{unusedTask, taskAt, votePlace, votedIn}
+use Rattle.plan.specs.Tables.{unusedTask, taskAt, votePlace, votedIn}
 use Rattle.plan.specs.Accepted.{headerOk, taskOk, isUnused, notFalling, taskEntry, initialEntry, voteEntry, actuatorEntry, entriesOk, opStorable, storable, wellFormed}
 use Rattle.plan.proofs.Op as OpType
 use Rattle.plan.proofs.Task as TaskType

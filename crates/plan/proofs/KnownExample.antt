@@ -6,7 +6,8 @@ use lib.ListN.{replicate}
 use Rattle.array.specs.Index.{allBelow, allIn}
 use Rattle.plan.specs.declared.Plan.{Plan}
 use Rattle.plan.specs.Limits.{mostFrames, mostCells, mostActuators, mostTasks}
-use Rattle.plan.specs.Known.{unusedTask, votedIn, reads, readsKnown, knowTask, knowTasks, knowVoted, knowFrame, known, allKnown, periodTo, period}
+use Rattle.plan.specs.Known.{reads, readsKnown, knowTask, knowTasks, knowVoted, knowFrame, known, allKnown, periodTo, period}
+use Rattle.plan.specs.Tables.{unusedTask, votedIn}
 
 -- its one task is a Take of zeros, as the unused ones are
 abbrev pub oneTake : Plan

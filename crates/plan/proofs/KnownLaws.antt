@@ -15,7 +15,8 @@ use Rattle.plan.specs.declared.Op.{Op}
 use Rattle.plan.specs.declared.Task.{Task}
 use Rattle.plan.specs.declared.Plan.{Plan}
 use Rattle.plan.specs.Limits.{mostCells}
-use Rattle.plan.specs.Known.{taskAt, votedIn, reads, readsKnown, knowTask, knowTasks, knowVoted, knowFrame, noneKnown, known}
+use Rattle.plan.specs.Known.{reads, readsKnown, knowTask, knowTasks, knowVoted, knowFrame, noneKnown, known}
+use Rattle.plan.specs.Tables.{taskAt, votedIn}
 use Rattle.plan.specs.Accepted.{opOk}
 use Rattle.plan.proofs.AcceptedLaws.{Shape}
 

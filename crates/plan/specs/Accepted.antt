@@ -5,13 +5,14 @@ use lib.ListN.{getD, length}
 use lib.Dec.{eqb, leb, ltb}
 use lib.Ieee.{binary64, fits, le}
 use Rattle.array.specs.Index.{allBelow, allIn}
-use Rattle.pattern.specs.Constant.{finite, finiteUnsigned}
+use Rattle.pattern.specs.Constant.{isFinite, finiteUnsigned}
 use Rattle.plan.specs.declared.Op.{Op}
 use Rattle.plan.specs.declared.Op.the-variants.{Take, Sum, Diff, Scale, Limit, Wind, Cam}
 use Rattle.plan.specs.declared.Task.{Task}
 use Rattle.plan.specs.declared.Plan.{Plan}
 use Rattle.plan.specs.Limits.{leastNodes, mostNodes, mostFrames, mostCells, mostSensors, mostActuators, mostTasks}
-use Rattle.plan.specs.Known.{taskAt, votedIn, reads, period}
+use Rattle.plan.specs.Known.{reads, period}
+use Rattle.plan.specs.Tables.{taskAt, votedIn}
 
 -- ---- the header: "nodes n, 3–7" (from 1 since request 2026-04) "; frames F, 1–16; cells C, 1–32; sensors S, 1–16; actuators A, 1–8", and "at most 64" tasks
 
@@ -31,9 +32,9 @@ unfoldable pub constantsOk : ℕ → Op → Bool
 constantsOk sensors (Take s) = ltb s sensors
 constantsOk sensors (Sum a b) = true
 constantsOk sensors (Diff a b) = true
-constantsOk sensors (Scale a factor) = finite factor
-constantsOk sensors (Limit a low high) = finite low && finite high && le low high
-constantsOk sensors (Wind a law) = finite (law .rate) && finiteUnsigned (law .cap)
+constantsOk sensors (Scale a factor) = isFinite factor
+constantsOk sensors (Limit a low high) = isFinite low && isFinite high && le low high
+constantsOk sensors (Wind a law) = isFinite (law .rate) && finiteUnsigned (law .cap)
 constantsOk sensors (Cam a) = true
 
 -- the cells that it reads are in range

@@ -1,7 +1,7 @@
 -- Document 01, 'Recovery': "A cell's being known is defined from the plan only."
 use mathlib.Core.Bool.{Bool, true, false, cond}
 use mathlib.Core.List.{List, [], _∷_}
-use Prim.Native.Nat.{ℕ, zero, suc, _+_, _*_, _/_, _%_}
+use Prim.Native.Nat.{ℕ, zero, suc, _+_, _*_, _%_}
 use lib.ListN.{getD, set, replicate}
 use lib.Dec.{eqb}
 use Rattle.array.specs.Index.{allBelow, allIn}
@@ -10,28 +10,7 @@ use Rattle.plan.specs.declared.Op.the-variants.{Take, Sum, Diff, Scale, 
 use Rattle.plan.specs.declared.Task.{Task}
 use Rattle.plan.specs.declared.Plan.{Plan}
 use Rattle.plan.specs.Limits.{mostCells}
-
--- "an unused task is a Take of zeros"
-abbrev pub unusedTask : Task
-unusedTask = record { frame = 0; target = 0; op = Take 0 }
-
--- task k of a plan, in text order
-abbrev pub taskAt : Plan → ℕ → Task
-taskAt p k = getD (p .tasks) k unusedTask
-
--- how the table of votes is laid out: the entry of a frame and a cell, and the frame and the cell of an entry
-abbrev pub votePlace : ℕ → ℕ → ℕ
-votePlace frame cell = mostCells * frame + cell
-
-abbrev pub voteFrame : ℕ → ℕ
-voteFrame e = e / mostCells
-
-abbrev pub voteCell : ℕ → ℕ
-voteCell e = e % mostCells
-
--- whether a cell is voted in a frame
-unfoldable pub votedIn : Plan → ℕ → ℕ → Bool
-votedIn p frame cell = getD (p .voted) (votePlace frame cell) false
+use Rattle.plan.specs.Tables.{taskAt, votedIn}
 
 -- the cells that a task reads: "Take reads none; Wind reads its target too"; a cam "reads cell a" (request 2026-01)
 unfoldable pub reads : Op → ℕ → List ℕ

@@ -1,4 +1,5 @@
 pub mod Limits
+pub mod Tables
 pub mod Known
 pub mod Sizes
 pub mod Accepted

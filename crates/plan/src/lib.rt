@@ -1,10 +1,8 @@
-// The plan record, and which records are of form. The recovery period is in `plan_period`.
+// The plan record, with the definitions of what is accepted and of the recovery period. `plan_form` and `plan_period` test a record.
 ghost use mathlib.Core.Path.{_≡_};
-ghost use Rattle.plan.specs.Accepted.{wellFormed};
 ghost use Rattle.plan.specs.Sizes.{sizesWith};
 use pattern::WindLaw;
 
-pub mod entries;
 pub mod step;
 
 // A task is one of seven kinds with the constants of its own kind. The numbers are cells, but for Take's sensor.
@@ -78,28 +76,4 @@ pub fn sizes_with(p: Plan, period: usize) -> Sizes
         actuators: p.actuators,
         period,
     }
-}
-
-pub fn well_formed(p: Plan) -> bool
-    ensures { λ r. ⌜ r ≡ wellFormed p ⌝ }
-{
-    let nodes = p.nodes;
-    let frames = p.frames;
-    let cells = p.cells;
-    let sensors = p.sensors;
-    let actuators = p.actuators;
-    let tasks = p.task_count;
-    if !entries::header_ok(nodes, frames, cells, sensors, actuators, tasks) {
-        return false;
-    }
-    if !entries::tasks_ok(p) {
-        return false;
-    }
-    if !entries::initial_ok(&p.initial, cells) {
-        return false;
-    }
-    if !entries::votes_ok(&p.voted, frames, cells) {
-        return false;
-    }
-    entries::actuators_ok(&p.actuator_cell, actuators, cells)
 }

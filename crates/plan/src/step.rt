@@ -4,7 +4,7 @@ ghost use mathlib.Core.Bool.{false};
 ghost use Prim.Native.Nat.{_<_};
 ghost use lib.ListN.{getD};
 ghost use Rattle.plan.specs.Limits.{mostFrames, mostCells};
-ghost use Rattle.plan.specs.Known.{votePlace, voteFrame, voteCell};
+ghost use Rattle.plan.specs.Tables.{votePlace, voteFrame, voteCell};
 use super::Plan;
 
 pub fn vote_place(frame: usize, cell: usize) -> usize

@@ -6,7 +6,7 @@ use Prim.Native.Nat.{ℕ, _+_, _*_, _^_, _≤_, _<_}
 use native.Mathlib.Omega.{arith}
 use lib.ListN.{length, take, set}
 use lib.Seq.{set-split}
-use Rattle.array.specs.Place.{placed}
+use Rattle.array.specs.Code.{placed}
 use Rattle.array.proofs.PlacedLaws.{placed-next, placed-length, front-taken}
 use Rattle.answer.specs.declared.Answer.{Answer}
 use Rattle.answer.specs.declared.Answer.the-variants.{Done}
@@ -25,7 +25,8 @@ use Rattle.plan_grammar.specs.Meant.{planOf}
 use Rattle.plan_grammar.specs.Refused.{textRefusal}
 use Rattle.plan_grammar.proofs.RefusedLaws.{refusal-numbered}
 use Rattle.plan_text.specs.declared.PlanRead.{PlanRead}
-use Rattle.plan_text.specs.Answers.{readAnswer, readPeriod}
+use Rattle.plan_text.specs.Answers.{readAnswer}
+use Rattle.plan_text.specs.Code.{readPeriod}
 use Rattle.plan_text.proofs.TextLaws.{read-plan}
 use Rattle.run_line.specs.Line.{refusalLine, refusalSize}
 use Rattle.run_line.proofs.WritingLaws.{refusal-length}

@@ -9,9 +9,6 @@ use libc::STDOUT_FILENO;
 // The column of R; its line feed follows.
 const PERIOD: usize = 4;
 
-// More than the longest plan text, so that a longer file is seen to be too long.
-const TEXT: usize = plan_line::Line::TEXT + 1;
-
 // What is printed for a plan text, and its length.
 fn print(text: &[u8], out: &mut [u8]) -> usize
     requires { ⌜ refusalSize ≤ length (now out) ⌝ }
@@ -24,22 +21,9 @@ fn print(text: &[u8], out: &mut [u8]) -> usize
         run_line::step::write_refusal(out, refused);
         return run_line::step::REFUSAL;
     }
-    run_line::step::put(out, 0, PERIOD, period as u64);
+    column_write::step::put(out, 0, PERIOD, period as u64);
     out[PERIOD] = b'\n';
     PERIOD + 1
-}
-
-// A file that cannot be opened counts as empty.
-fn read_plan(text: &mut [u8]) -> usize
-    ensures { λ r. ⌜ r ≤ length (now (text .exit)) ⌝ }
-{
-    let file = os::open_read(b"plan.txt");
-    if file < 0 {
-        return 0;
-    }
-    let n = io::read_full(file, text);
-    libc::close(file);
-    n
 }
 
 fn show(text: &[u8], out: &mut [u8])
@@ -50,8 +34,8 @@ fn show(text: &[u8], out: &mut [u8])
 }
 
 fn main() {
-    let mut text = [0u8; TEXT];
+    let mut text = [0u8; plan_file::TEXT];
     let mut out = [0u8; run_line::step::REFUSAL];
-    let n = read_plan(&mut text);
+    let n = plan_file::read(&mut text);
     show(&text[0..n], &mut out[0..run_line::step::REFUSAL]);
 }

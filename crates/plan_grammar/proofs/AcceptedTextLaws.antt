@@ -17,7 +17,7 @@ use Rattle.column.proofs.RowLaws.{room-bound}
 use Rattle.plan.specs.declared.Task.{Task}
 use Rattle.plan.specs.declared.Plan.{Plan}
 use Rattle.plan.specs.Limits.{mostFrames, mostCells, mostTasks, mostActuators}
-use Rattle.plan.specs.Known.{unusedTask, taskAt, votePlace, voteFrame, voteCell, votedIn}
+use Rattle.plan.specs.Tables.{unusedTask, taskAt, votePlace, voteFrame, voteCell, votedIn}
 use Rattle.plan.specs.Accepted.{headerOk, taskOk, opStorable, wellFormed}
 use Rattle.plan.proofs.AcceptedLaws.{Shape, wellFormed-of}
 use Rattle.plan_grammar.specs.Line.{widths, lineCount, lineAt, kindOf, second, third, fourth, fifth, sixth, isTask, headerKind, cellKind, voteKind, actuatorKind}

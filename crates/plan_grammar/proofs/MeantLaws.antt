@@ -12,12 +12,12 @@ use lib.Ieee.Bits.{is-true, ofBits-fits, toBits-ofBits}
 use borrow.Author.Tests.{eqb-true, eqb-false, leb-true}
 use Rattle.array.proofs.TestLaws.{split, clash, and-left, and-right, and-both, and-false-left, and-false-right}
 use Rattle.pattern.specs.Pattern.{valueOf, patternOf}
-use Rattle.pattern.specs.Constant.{finite, finiteUnsigned}
+use Rattle.pattern.specs.Constant.{isFinite, finiteUnsigned}
 use Rattle.pattern.proofs.ConstantLaws.{finite-no-nan, finite-of-unsigned}
 use Rattle.plan.specs.declared.Task.{Task}
 use Rattle.plan.specs.declared.Plan.{Plan}
 use Rattle.plan.specs.Limits.{mostFrames, mostCells, mostTasks, mostActuators}
-use Rattle.plan.specs.Known.{unusedTask, votePlace}
+use Rattle.plan.specs.Tables.{unusedTask, votePlace}
 use Rattle.plan.specs.Accepted.{headerOk, constantsOk, opOk, taskOk, opStorable, storable, wellFormed, accepted}
 use Rattle.plan_grammar.specs.Line.{lineAt, kindOf, second, third, fifth, isTask, cellKind, takeKind, camKind, voteKind, actuatorKind}
 use Rattle.plan_grammar.specs.Meant.{zeroPlan, opOf, taskOf, headerWith, initialWith, countWith, tasksWith, votedWith, actuatorsWith, withLine, planTo}
@@ -94,11 +94,11 @@ module _ (s : List ℕ) where
 -- ---- constants
 
 -- the pattern of a finite value is the one that was read
-pub pattern-of-value : (x : ℕ) → x < 2 ^ 64 → finite (valueOf x) ≡ true → patternOf (valueOf x) ≡ x
+pub pattern-of-value : (x : ℕ) → x < 2 ^ 64 → isFinite (valueOf x) ≡ true → patternOf (valueOf x) ≡ x
 pattern-of-value x l f = toBits-ofBits binary64 x l (finite-no-nan (valueOf x) f)
 
-pub finite-unsigned : (x : Float) → finiteUnsigned x ≡ true → finite x ≡ true
-finite-unsigned x u = split (finite x) (λ t. t) (λ t. absurd (clash u (sym (finite-of-unsigned x t))))
+pub finite-unsigned : (x : Float) → finiteUnsigned x ≡ true → isFinite x ≡ true
+finite-unsigned x u = split (isFinite x) (λ t. t) (λ t. absurd (clash u (sym (finite-of-unsigned x t))))
 
 value-fits : (x : ℕ) → fits binary64 (valueOf x) ≡ true
 value-fits x = is-true (fits binary64 (valueOf x)) (ofBits-fits binary64 x)
@@ -162,16 +162,16 @@ module _ (frames cells sensors f c a b d : ℕ) (lb : b < 2 ^ 64) (ld : d < 2 ^ 
   unfolding taskOf opOf constantsOk taskZeros taskLine opLine
   back-limit o z =
       let r = constants-of-ok 14 o in
-      let fb : finite (valueOf b) ≡ true = search (and-left, and-right) in
-      let fd : finite (valueOf d) ≡ true = search (and-left, and-right) in
+      let fb : isFinite (valueOf b) ≡ true = search (and-left, and-right) in
+      let fd : isFinite (valueOf d) ≡ true = search (and-left, and-right) in
       rw (pattern-of-value b lb fb, pattern-of-value d ld fd)
 
   back-wind : Back 15
   unfolding taskOf opOf constantsOk taskZeros taskLine opLine
   back-wind o z =
       let r = constants-of-ok 15 o in
-      let fb : finite (valueOf b) ≡ true = and-left (finite (valueOf b)) (finiteUnsigned (valueOf d)) r in
-      let fd : finite (valueOf d) ≡ true = finite-unsigned (valueOf d) (and-right (finite (valueOf b)) (finiteUnsigned (valueOf d)) r) in
+      let fb : isFinite (valueOf b) ≡ true = and-left (isFinite (valueOf b)) (finiteUnsigned (valueOf d)) r in
+      let fd : isFinite (valueOf d) ≡ true = finite-unsigned (valueOf d) (and-right (isFinite (valueOf b)) (finiteUnsigned (valueOf d)) r) in
       rw (pattern-of-value b lb fb, pattern-of-value d ld fd)
 
   back-cam : Back 16

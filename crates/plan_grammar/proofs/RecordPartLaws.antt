@@ -12,7 +12,7 @@ use borrow.Author.Tests.{ltb-true, ltb-false, eqb-true, eqb-false}
 use Rattle.array.proofs.TestLaws.{split, clash}
 use Rattle.plan.specs.declared.Task.{Task}
 use Rattle.plan.specs.Limits.{mostFrames, mostCells, mostTasks, mostActuators}
-use Rattle.plan.specs.Known.{unusedTask}
+use Rattle.plan.specs.Tables.{unusedTask}
 use Rattle.plan.specs.Accepted.{taskOk, opStorable}
 
 -- ---- one entry more

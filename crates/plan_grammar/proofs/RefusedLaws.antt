@@ -27,13 +27,13 @@ use Rattle.plan_grammar.proofs.LineLaws.{lineAt-is}
 pub no-answer : {a : Answer} {X : Type 0} → some a ≡ none → X
 no-answer e = absurd (let z : _≡_ {A = ℕ} 0 1 = cc in omega arith)
 
-orElse-left : (a b : Option Answer) → orRefusal a b ≡ none → a ≡ none
-orElse-left none b e = refl
-orElse-left (some x) b e = no-answer e
+orRefusal-left : (a b : Option Answer) → orRefusal a b ≡ none → a ≡ none
+orRefusal-left none b e = refl
+orRefusal-left (some x) b e = no-answer e
 
-orElse-right : (a b : Option Answer) → orRefusal a b ≡ none → b ≡ none
-orElse-right none b e = e
-orElse-right (some x) b e = no-answer e
+orRefusal-right : (a b : Option Answer) → orRefusal a b ≡ none → b ≡ none
+orRefusal-right none b e = e
+orRefusal-right (some x) b e = no-answer e
 
 -- a test that refuses, if it passes
 passes : (t : Bool) (a : Answer) (o : Option Answer) → cond t o (some a) ≡ none → t ≡ true
@@ -73,7 +73,7 @@ module _ (s : List ℕ) where
 
   pub first-line : (i n : ℕ) → i < n → firstRefusal s n ≡ none → lineRefusal s i ≡ none
   unfolding firstRefusal
-  first-line i n l e = orElse-right (firstRefusal s i) (lineRefusal s i) (first-before (suc i) n l e)
+  first-line i n l e = orRefusal-right (firstRefusal s i) (lineRefusal s i) (first-before (suc i) n l e)
 
   pub first-none : (n : ℕ) → ((i : ℕ) → i < n → lineRefusal s i ≡ none) → firstRefusal s n ≡ none
   unfolding firstRefusal
@@ -202,12 +202,12 @@ module _ (h : List ℕ) (header : isHeader h ≡ true) where
 module _ (s : List ℕ) where
   pub lines-first : linesRefusal s ≡ none → firstRefusal s (lineCount s) ≡ none
   unfolding linesRefusal
-  lines-first e = orElse-left (firstRefusal s (lineCount s)) (endRefusal s) e
+  lines-first e = orRefusal-left (firstRefusal s (lineCount s)) (endRefusal s) e
 
   pub lines-last : linesRefusal s ≡ none → isLast (lineAt s 0) (lineAt s (lineCount s - 1)) ≡ true
   unfolding linesRefusal endRefusal
   lines-last e =
-      passes (isLast (lineAt s 0) (lineAt s (lineCount s - 1))) _ _ (orElse-right (firstRefusal s (lineCount s)) (endRefusal s) e)
+      passes (isLast (lineAt s 0) (lineAt s (lineCount s - 1))) _ _ (orRefusal-right (firstRefusal s (lineCount s)) (endRefusal s) e)
 
   pub lines-none : firstRefusal s (lineCount s) ≡ none → isLast (lineAt s 0) (lineAt s (lineCount s - 1)) ≡ true → linesRefusal s ≡ none
   unfolding linesRefusal endRefusal
@@ -252,13 +252,13 @@ module _ (s : List ℕ) where
   text-rest e = after-test (lengthOk (length s)) _ _ e
 
   pub text-lines-ok : textRefusal s ≡ none → linesRefusal s ≡ none
-  text-lines-ok e = orElse-left (linesRefusal s) (periodRefusal s) (text-rest e)
+  text-lines-ok e = orRefusal-left (linesRefusal s) (periodRefusal s) (text-rest e)
 
   pub text-period : textRefusal s ≡ none → eqb (period (planOf s)) 0 ≡ false
   unfolding periodRefusal
   text-period e =
       split (eqb (period (planOf s)) 0)
-      (λ t. no-answer (ap (λ (b : Bool). cond b (some Unrecoverable) none) (sym t) ∙ orElse-right (linesRefusal s) (periodRefusal s) (text-rest e)))
+      (λ t. no-answer (ap (λ (b : Bool). cond b (some Unrecoverable) none) (sym t) ∙ orRefusal-right (linesRefusal s) (periodRefusal s) (text-rest e)))
       (λ t. t)
 
 -- ---- what a refusal can be

@@ -17,7 +17,7 @@ use Rattle.column.proofs.BytesLaws.{bytes-joined, row-bytes}
 use Rattle.plan.specs.declared.Task.{Task}
 use Rattle.plan.specs.declared.Plan.{Plan}
 use Rattle.plan.specs.Limits.{mostFrames, mostCells}
-use Rattle.plan.specs.Known.{unusedTask, taskAt, voteFrame, voteCell}
+use Rattle.plan.specs.Tables.{unusedTask, taskAt, voteFrame, voteCell}
 use Rattle.plan.specs.Accepted.{wellFormed}
 use Rattle.plan.proofs.AcceptedLaws.{shape-of}
 use Rattle.plan_grammar.specs.Line.{widths, lineSize, mostTextLines, cellKind, actuatorKind}

@@ -24,7 +24,8 @@ use Rattle.plan.specs.declared.Op.the-variants.{Take, Sum, Diff, Scale, Limit, 
 use Rattle.plan.specs.declared.Task.{Task}
 use Rattle.plan.specs.declared.Plan.{Plan}
 use Rattle.plan.specs.Limits.{mostFrames, mostCells, mostSensors, mostTasks}
-use Rattle.plan.specs.Known.{unusedTask, taskAt, votePlace, voteFrame, voteCell, votedIn, reads}
+use Rattle.plan.specs.Known.{reads}
+use Rattle.plan.specs.Tables.{unusedTask, taskAt, votePlace, voteFrame, voteCell, votedIn}
 use Rattle.plan.specs.Accepted.{headerOk, constantsOk, opOk, taskOk, opStorable, wellFormed}
 use Rattle.plan.proofs.AcceptedLaws.{Shape, shape-of}
 use Rattle.plan_grammar.specs.Line.{widths, lineSize, mostTextLines, lineCount, numbersAt, lineAt, kindOf, second, isTask, cellKind, voteKind, actuatorKind}

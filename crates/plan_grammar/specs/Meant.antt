@@ -10,7 +10,7 @@ use Rattle.plan.specs.declared.Op.the-variants.{Take, Sum, Diff, Scale, Limit, 
 use Rattle.plan.specs.declared.Task.{Task}
 use Rattle.plan.specs.declared.Plan.{Plan}
 use Rattle.plan.specs.Limits.{mostFrames, mostCells, mostTasks, mostActuators}
-use Rattle.plan.specs.Known.{unusedTask, votePlace}
+use Rattle.plan.specs.Tables.{unusedTask, votePlace}
 use Rattle.plan_grammar.specs.Line.{lineCount, lineAt, kindOf, second, third, fourth, fifth, sixth, isTask, headerKind, cellKind, sumKind, diffKind, scaleKind, limitKind, windKind, camKind, voteKind, actuatorKind}
 
 -- "a new plan .. beside a refusal is all zero"

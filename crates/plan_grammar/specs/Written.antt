@@ -11,7 +11,7 @@ use Rattle.plan.specs.declared.Op.the-variants.{Take, Sum, Diff, Scale, Limit, 
 use Rattle.plan.specs.declared.Task.{Task}
 use Rattle.plan.specs.declared.Plan.{Plan}
 use Rattle.plan.specs.Limits.{mostFrames, mostCells}
-use Rattle.plan.specs.Known.{taskAt, voteFrame, voteCell}
+use Rattle.plan.specs.Tables.{taskAt, voteFrame, voteCell}
 use Rattle.plan_grammar.specs.Line.{widths, headerKind, cellKind, takeKind, sumKind, diffKind, scaleKind, limitKind, windKind, camKind, voteKind, actuatorKind}
 
 -- the lines by their numbers, after document 01's table

@@ -124,7 +124,7 @@ pub fn is_header(l: Line) -> bool
     ensures { λ r. ⌜ r ≡ isHeader (numbersIn l) ⌝ }
 {
     (l.kind == Line::HEADER)
-        & plan::entries::header_ok(
+        & plan_entry::header_ok(
             l.second,
             l.third,
             l.fourth,
@@ -296,7 +296,7 @@ pub fn in_range(h: Line, l: Line) -> bool
     }
     if is_task(kind) {
         let t = task_of(l);
-        return plan::entries::task_ok(h.third, cells, h.fifth as usize, t) & task_zeros(l);
+        return plan_entry::task_ok(h.third, cells, h.fifth as usize, t) & task_zeros(l);
     }
     let zeros = (l.fourth == 0) & (l.fifth == 0) & (l.sixth == 0);
     if kind == Line::VOTE {

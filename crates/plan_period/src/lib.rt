@@ -15,7 +15,7 @@ pub struct PeriodFound {
 pub fn accepted_period(plan: Plan) -> usize
     ensures { λ r. ⌜ r ≡ acceptedPeriod plan ⌝ }
 {
-    if plan::well_formed(plan) {
+    if plan_form::well_formed(plan) {
         return step::period(plan);
     }
     0

@@ -23,7 +23,8 @@ use Rattle.plan_line.specs.declared.LineRead.the-variants.{Whole, Malformed as 
 use Rattle.plan_grammar.specs.Line.{widths, lineSize, mostTextLines, lineCount, numbersAt, lineAt}
 use Rattle.plan_grammar.specs.Meant.{zeroPlan, withLine, planTo, planOf}
 use Rattle.plan_grammar.specs.Refused.{lengthOk, isHeader, inOrder, inRange, lineRefusal, firstRefusal, isLast, linesRefusal, textRefusal}
-use Rattle.plan_text.specs.Answers.{readAnswer, readPeriod}
+use Rattle.plan_text.specs.Answers.{readAnswer}
+use Rattle.plan_text.specs.Code.{readPeriod}
 use Rattle.plan_line.specs.Code.{numbersIn, numbersRead}
 use Rattle.plan_grammar.proofs.LineLaws.{slice-part, lineAt-is, some-line, few-lines}
 use Rattle.plan_grammar.proofs.MeantLaws.{zero-refused, planTo-start, planTo-more, planTo-tasks, planTo-count}

@@ -1,7 +1,6 @@
-// Reading and writing a plan text.
+// Reading a plan text. `plan_text_write` writes it.
 ghost use mathlib.Core.Path.{_≡_};
-ghost use lib.ListN.{length};
-ghost use Rattle.plan_text.specs.Answers.{readAnswer, writeAnswer, writePlace};
+ghost use Rattle.plan_text.specs.Answers.{readAnswer};
 use answer::Answer;
 use plan::Plan;
 
@@ -12,6 +11,7 @@ pub struct PlanRead {
     pub plan: Plan,
 }
 
+// What a call that writes a text gives: so many bytes stand at the front of its buffer.
 pub struct TextWritten {
     pub answer: Answer,
     pub count: usize,
@@ -22,27 +22,4 @@ pub fn read(text: &[u8]) -> PlanRead
 {
     let mut period: usize = 0;
     step::read(text, &mut period)
-}
-
-pub fn write(plan: Plan, out: &mut [u8]) -> TextWritten
-    ensures { λ r. ⌜ (r ≡ writeAnswer plan (length (now (out .entry)))) × (now (out .exit) ≡ writePlace plan (now (out .entry))) ⌝ }
-{
-    if plan_period::accepted_period(plan) == 0 {
-        return TextWritten {
-            answer: Answer::InvalidPlan,
-            count: 0,
-        };
-    }
-    let count = plan_writer::step::text_size(plan);
-    if out.len() < count {
-        return TextWritten {
-            answer: Answer::WrongLength,
-            count: 0,
-        };
-    }
-    plan_writer::step::write(plan, out);
-    TextWritten {
-        answer: Answer::Done,
-        count,
-    }
 }

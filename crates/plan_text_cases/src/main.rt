@@ -9,7 +9,7 @@ use plan_line::Line;
 // Whether the plan, written, gives the text again.
 fn written_back(plan: Plan, text: &[u8]) -> bool {
     let mut out = [0u8; Line::TEXT];
-    let written = plan_text::write(plan, &mut out);
+    let written = plan_text_write::write(plan, &mut out);
     let answer = written.answer;
     let count = written.count;
     let s = &out[..];
@@ -21,10 +21,10 @@ fn written_back(plan: Plan, text: &[u8]) -> bool {
 
 fn print(number: usize, line: usize) {
     let mut first = [0u8; 4];
-    column::write(&mut first, number as u64);
+    column_write::write(&mut first, number as u64);
     io::write_all(STDOUT_FILENO, &first);
     let mut second = [0u8; 8];
-    column::write(&mut second, line as u64);
+    column_write::write(&mut second, line as u64);
     io::write_all(STDOUT_FILENO, &second);
     io::write_all(STDOUT_FILENO, b"\n");
 }

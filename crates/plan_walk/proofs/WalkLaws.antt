@@ -16,7 +16,7 @@ use Rattle.array.proofs.TestLaws.{split}
 use Rattle.array.proofs.IndexLaws.{allBelow-none}
 use Rattle.array.proofs.BitLaws.{bit-and, bit-ones, bit-set}
 use Rattle.array.proofs.PlacesLaws.{fill-more, fill-out}
-use Rattle.plan.specs.Known.{votePlace}
+use Rattle.plan.specs.Tables.{votePlace}
 
 -- ---- words of ones
 

@@ -21,7 +21,8 @@ use Rattle.plan.specs.declared.Op.{Op}
 use Rattle.plan.specs.declared.Task.{Task}
 use Rattle.plan.specs.declared.Plan.{Plan}
 use Rattle.plan_walk.specs.declared.step.Walk.{Walk}
-use Rattle.plan.specs.Known.{taskAt, votePlace, votedIn, reads, readsKnown, knowTask, knowTasks, knowVoted, knowFrame, known, noneKnown, allKnown, period}
+use Rattle.plan.specs.Known.{reads, readsKnown, knowTask, knowTasks, knowVoted, knowFrame, known, noneKnown, allKnown, period}
+use Rattle.plan.specs.Tables.{taskAt, votePlace, votedIn}
 use Rattle.plan_walk.specs.Code.{walkStart, wordsStart, allWords, readWord, afterTask, withVotes, whole, longer, Closed}
 use Rattle.plan.proofs.AcceptedLaws.{Shape}
 use Rattle.plan.proofs.KnownLaws.{All, task-elsewhere, task-target, task-other, voted-is, voted-past, tasks-length, known-first, known-next, known-length, none-known}

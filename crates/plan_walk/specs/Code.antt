@@ -13,7 +13,8 @@ use Rattle.plan.specs.declared.Op.{Op}
 use Rattle.plan.specs.declared.Task.{Task}
 use Rattle.plan_walk.specs.declared.step.Walk.{Walk}
 use Rattle.plan.specs.Limits.{mostCells}
-use Rattle.plan.specs.Known.{reads, votePlace}
+use Rattle.plan.specs.Known.{reads}
+use Rattle.plan.specs.Tables.{votePlace}
 
 abbrev pub walkStart : Walk
 walkStart = record { low = 0; longest = 0; time = 0; frame = 0 }

@@ -11,7 +11,7 @@ use lib.Bits.{block-odd}
 use borrow.Author.Tests.{eqb-true, eqb-false}
 use Rattle.array.specs.Bit.{bit}
 use Rattle.array.proofs.TestLaws.{split}
-use Rattle.plan_words.specs.Words.{ofBits}
+use Rattle.plan_words.specs.Words.{numberOfBits}
 
 two-pow-pos : (n : ℕ) → 0 < 2 ^ n
 two-pow-pos n = one-le-pow n 2 (lit< tt)
@@ -46,24 +46,24 @@ bit-worth : (b : Bool) (n : ℕ) → cond b (2 ^ n) 0 ≤ 2 ^ n
 bit-worth true n = omega arith
 bit-worth false n = omega arith
 
-pub ofBits-small : (q : ℕ → Bool) (n : ℕ) → ofBits q n < 2 ^ n
-unfolding ofBits
-ofBits-small q zero = lit< tt
-ofBits-small q (suc n) = omega (arith, ofBits-small q n, bit-worth (q n) n, two-pow-succ n)
+pub numberOfBits-small : (q : ℕ → Bool) (n : ℕ) → numberOfBits q n < 2 ^ n
+unfolding numberOfBits
+numberOfBits-small q zero = lit< tt
+numberOfBits-small q (suc n) = omega (arith, numberOfBits-small q n, bit-worth (q n) n, two-pow-succ n)
 
-pub ofBits-none : (q : ℕ → Bool) → ofBits q 0 ≡ 0
-unfolding ofBits
-ofBits-none q = refl
+pub numberOfBits-none : (q : ℕ → Bool) → numberOfBits q 0 ≡ 0
+unfolding numberOfBits
+numberOfBits-none q = refl
 
 -- one bit more
-module _ (q : ℕ → Bool) (n : ℕ) {w : ℕ} (e : w ≡ ofBits q n) where
-  pub ofBits-hit : q n ≡ true → w + 2 ^ n ≡ ofBits q (n + 1)
-  unfolding ofBits
-  ofBits-hit h = rw (add-one n, h, e)
+module _ (q : ℕ → Bool) (n : ℕ) {w : ℕ} (e : w ≡ numberOfBits q n) where
+  pub numberOfBits-hit : q n ≡ true → w + 2 ^ n ≡ numberOfBits q (n + 1)
+  unfolding numberOfBits
+  numberOfBits-hit h = rw (add-one n, h, e)
 
-  pub ofBits-miss : q n ≡ false → w ≡ ofBits q (n + 1)
-  unfolding ofBits
-  ofBits-miss h = rw (add-one n, h, e) (omega arith)
+  pub numberOfBits-miss : q n ≡ false → w ≡ numberOfBits q (n + 1)
+  unfolding numberOfBits
+  numberOfBits-miss h = rw (add-one n, h, e) (omega arith)
 
 -- ---- a bit of a word, as the code makes it
 
@@ -76,10 +76,10 @@ module _ (c : ℕ) (l : c < 64) where
 
 -- ---- a word is the number of its bits
 
-pub ofBits-same : (q r : ℕ → Bool) (n : ℕ) → ((i : ℕ) → i < n → q i ≡ r i) → ofBits q n ≡ ofBits r n
-unfolding ofBits
-ofBits-same q r zero e = refl
-ofBits-same q r (suc n) e = rw (ofBits-same q r n (λ i l. e i (omega arith)), e n (omega arith))
+pub numberOfBits-same : (q r : ℕ → Bool) (n : ℕ) → ((i : ℕ) → i < n → q i ≡ r i) → numberOfBits q n ≡ numberOfBits r n
+unfolding numberOfBits
+numberOfBits-same q r zero e = refl
+numberOfBits-same q r (suc n) e = rw (numberOfBits-same q r n (λ i l. e i (omega arith)), e n (omega arith))
 
 -- one binary digit in front
 digit-worth : (x d r : ℕ) → x < 2 → r < d → (x * d + r ≡ r + cond (eqb x 1) d 0) × (x * d + r < d + d)
@@ -106,13 +106,13 @@ module _ (w n : ℕ) where
       ∙ mul-add-mod-self-right (w / 2 ^ n / 2) (2 ^ suc n) (w / 2 ^ n % 2 * 2 ^ n + w % 2 ^ n)
       ∙ mod-eq-of-lt small ∙ last .0
 
-ofBits-of-bits : (w n : ℕ) → ofBits (bit w) n ≡ w % 2 ^ n
-unfolding ofBits
-ofBits-of-bits w zero = sym (mod-one w)
-ofBits-of-bits w (suc n) = ap (λ (x : ℕ). x + cond (bit w n) (2 ^ n) 0) (ofBits-of-bits w n) ∙ sym (bits-more w n)
+numberOfBits-of-bits : (w n : ℕ) → numberOfBits (bit w) n ≡ w % 2 ^ n
+unfolding numberOfBits
+numberOfBits-of-bits w zero = sym (mod-one w)
+numberOfBits-of-bits w (suc n) = ap (λ (x : ℕ). x + cond (bit w n) (2 ^ n) 0) (numberOfBits-of-bits w n) ∙ sym (bits-more w n)
 
-pub word-of-bits : (w n : ℕ) → w < 2 ^ n → ofBits (bit w) n ≡ w
-word-of-bits w n l = ofBits-of-bits w n ∙ mod-eq-of-lt l
+pub word-of-bits : (w n : ℕ) → w < 2 ^ n → numberOfBits (bit w) n ≡ w
+word-of-bits w n l = numberOfBits-of-bits w n ∙ mod-eq-of-lt l
 
 -- ---- and its bits are those of which it is the number
 
@@ -126,15 +126,15 @@ module _ (x n : ℕ) (l : x < 2 ^ n) where
   rest-same true = add-mod-right x (2 ^ n) ∙ mod-eq-of-lt l
   rest-same false = let z : x + 0 ≡ x = omega arith in rw z (mod-eq-of-lt l)
 
-pub bits-of-word : (q : ℕ → Bool) (n i : ℕ) → i < n → bit (ofBits q n) i ≡ q i
-unfolding ofBits
+pub bits-of-word : (q : ℕ → Bool) (n i : ℕ) → i < n → bit (numberOfBits q n) i ≡ q i
+unfolding numberOfBits
 bits-of-word q zero i l = absurd (not-suc-le-zero l)
 bits-of-word q (suc n) i l =
-    let small = ofBits-small q n in
+    let small = numberOfBits-small q n in
     split (eqb i n)
-    (λ t. rw (eqb-true i n t) (bit-front (ofBits q n) n small (q n)))
+    (λ t. rw (eqb-true i n t) (bit-front (numberOfBits q n) n small (q n)))
     (λ t.
     let m : i < n = omega (arith, eqb-false i n t) in
-    sym (bit-below (ofBits q n + cond (q n) (2 ^ n) 0) n i m)
-    ∙ ap (λ (x : ℕ). bit x i) (rest-same (ofBits q n) n small (q n))
+    sym (bit-below (numberOfBits q n + cond (q n) (2 ^ n) 0) n i m)
+    ∙ ap (λ (x : ℕ). bit x i) (rest-same (numberOfBits q n) n small (q n))
     ∙ bits-of-word q n i m)

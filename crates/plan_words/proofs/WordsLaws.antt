@@ -18,7 +18,8 @@ use Rattle.plan.specs.declared.Op.{Op}
 use Rattle.plan.specs.declared.Op.the-variants.{Take, Sum, Diff, Scale, Limit, Wind, Cam}
 use Rattle.plan.specs.declared.Plan.{Plan}
 use Rattle.plan.specs.Limits.{mostFrames, mostCells, mostSensors, mostTasks, mostActuators}
-use Rattle.plan.specs.Known.{unusedTask, taskAt, votePlace, voteFrame, voteCell, votedIn, reads}
+use Rattle.plan.specs.Known.{reads}
+use Rattle.plan.specs.Tables.{unusedTask, taskAt, votePlace, voteFrame, voteCell, votedIn}
 use Rattle.plan.specs.Accepted.{constantsOk, opOk, taskOk, opStorable, accepted}
 use Rattle.plan.proofs.AcceptedLaws.{Shape, op-always, shape-of-accepted}
 use Rattle.plan_grammar.specs.Line.{kindOf, isTask}
@@ -28,7 +29,7 @@ use Rattle.plan_grammar.specs.Written.{opLine, taskLine}
 use Rattle.plan_grammar.proofs.MeantLaws.{zero-refused, task-line}
 use Rattle.plan_grammar.proofs.WrittenTextLaws.{TaskLine, taskLine-is, fits-small}
 use Rattle.plan_words.specs.Words.{initialAt, tasksAt, taskSize, votesAt, actuatorsAt, planSize, voteWord, planWords, taskIn, voteIn, planIn, taskWords, voteWords, wordsOk, planOfWords}
-use Rattle.plan_words.proofs.BitsLaws.{ofBits-small, ofBits-same, word-of-bits, bits-of-word}
+use Rattle.plan_words.proofs.BitsLaws.{numberOfBits-small, numberOfBits-same, word-of-bits, bits-of-word}
 use Rattle.plan_words.proofs.WordsReadLaws.{fill-is, votesIn, vote-here, from-six, words-ok}
 use Rattle.plan_words.proofs.WordsPutLaws.{task-size, countsOf, tasksOf, votesOf, from-all, task-words-length, vote-words-length}
 
@@ -81,7 +82,7 @@ module _ (p : Plan) (h : Shape p) where
   -- they are a plan's words
   vote-ok : (g : ℕ) → g < mostFrames → voteWords (planWords p) g ≡ true
   unfolding voteWords voteWord
-  vote-ok g l = rw (vote-in g l) (lt-ltb _ (2 ^ mostCells) (ofBits-small (votedIn p g) mostCells))
+  vote-ok g l = rw (vote-in g l) (lt-ltb _ (2 ^ mostCells) (numberOfBits-small (votedIn p g) mostCells))
 
   -- the line of a task means the task
   line : (k : ℕ) → TaskLine (taskLine (taskAt p k)) (taskAt p k)
@@ -200,7 +201,7 @@ module _ (p : Plan) (h : Shape p) where
 
   vote-small : (g : ℕ) → voteWord p g < 2 ^ 64
   unfolding voteWord
-  vote-small g = omega (arith, ofBits-small (votedIn p g) mostCells)
+  vote-small g = omega (arith, numberOfBits-small (votedIn p g) mostCells)
 
   all-small : Small (planWords p)
   unfolding planWords
@@ -299,7 +300,7 @@ module _ (ws : List ℕ) (small : (i : ℕ) → getD ws i 0 < 2 ^ 64) (pass : wo
   vote-same : (g : ℕ) → g < mostFrames → voteWord (planIn ws) g ≡ voteIn ws g
   unfolding voteWord
   vote-same g l =
-      ofBits-same (votedIn (planIn ws) g) (bit (voteIn ws g)) mostCells (λ c m. vote-is g c l m)
+      numberOfBits-same (votedIn (planIn ws) g) (bit (voteIn ws g)) mostCells (λ c m. vote-is g c l m)
       ∙ word-of-bits (voteIn ws g) mostCells (votes-pass g l)
 
   tasks-same : tasksOf (planIn ws) ≡ from 0 ws tasksAt (taskSize * mostTasks)

@@ -17,10 +17,10 @@ use Rattle.plan.specs.declared.Op.the-variants.{Take, Sum, Diff, Scale, Limit, 
 use Rattle.plan.specs.declared.Task.{Task}
 use Rattle.plan.specs.declared.Plan.{Plan}
 use Rattle.plan.specs.Limits.{mostFrames, mostCells, mostTasks, mostActuators}
-use Rattle.plan.specs.Known.{taskAt, votePlace, votedIn}
+use Rattle.plan.specs.Tables.{taskAt, votePlace, votedIn}
 use Rattle.plan.proofs.AcceptedLaws.{Shape}
 use Rattle.plan_grammar.specs.Written.{opLine, taskLine}
-use Rattle.plan_words.specs.Words.{taskSize, planSize, ofBits, voteWord, planWords}
+use Rattle.plan_words.specs.Words.{taskSize, planSize, numberOfBits, voteWord, planWords}
 use Rattle.plan_words.proofs.WordsReadLaws.{fill-is}
 
 pub stored-six : (l : List ℕ) (a b c d e f : ℕ) → length l ≡ 6 → set (set (set (set (set (set l 0 a) 1 b) 2 c) 3 d) 4 e) 5 f ≡ a ∷ b ∷ c ∷ d ∷ e ∷ f ∷ []
@@ -119,14 +119,14 @@ vote-words-length p = each-length (voteWord p) mostFrames
 
 module _ (p : Plan) (h : Shape p) (s : List ℕ) (e : length s ≡ planSize) where
   pub plan-put :
-      (a b c d f : List ℕ) → a ≡ countsOf p → b ≡ from 0 (p .initial) 0 mostCells → c ≡ tasksOf p
-      → d ≡ joined (λ g. ofBits (λ c. getD (p .voted) (votePlace g c) false) mostCells ∷ []) mostFrames → f ≡ from 0 (p .«actuator_cell») 0 mostActuators
+      (a b c d f : List ℕ) → a ≡ countsOf p → b ≡ p .initial → c ≡ tasksOf p
+      → d ≡ joined (λ g. numberOfBits (λ c. getD (p .voted) (votePlace g c) false) mostCells ∷ []) mostFrames → f ≡ from 0 (p .«actuator_cell») 0 mostActuators
       → putMid 438 8 (putMid 422 16 (putMid 38 384 (putMid 6 32 (putMid 0 6 s a) b) c) d) f ≡ planWords p
   unfolding planWords voteWord votedIn
   plan-put a b c d f ha hb hc hd hf =
       let l0 = laid-none s 0 in
       let l1 = laid-part l0 a (countsOf p) 0 6 6 refl refl (omega arith) ha refl in
-      let l2 = laid-part l1 b (p .initial) 6 38 32 refl refl (omega arith) (hb ∙ from-all (p .initial) mostCells (h .initial-length)) (h .initial-length) in
+      let l2 = laid-part l1 b (p .initial) 6 38 32 refl refl (omega arith) hb (h .initial-length) in
       let l3 = laid-part l2 c (tasksOf p) 38 422 384 refl refl (omega arith) hc (task-words-length p) in
       let l4 = laid-part l3 d (votesOf p) 422 438 16 refl refl (omega arith) hd (vote-words-length p) in
       let l5 = laid-part l4 f (p .«actuator_cell») 438 446 8 refl refl (omega arith) (hf ∙ from-all (p .«actuator_cell») mostActuators (h .actuator-length)) (h .actuator-length) in

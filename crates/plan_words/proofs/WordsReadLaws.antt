@@ -7,21 +7,22 @@ use Prim.Native.Nat.{ℕ, _+_, _*_, _/_, _%_, _^_, _≤_, _<_}
 use native.Mathlib.Omega.{arith}
 use lib.Dec.{eqb}
 use lib.Ieee.{Float}
-use lib.ListN.{length, getD, set, replicate, length-replicate}
-use lib.Seq.{ext-getD}
+use lib.ListN.{length, getD, set, take, drop, replicate, length-replicate}
+use lib.Seq.{ext-getD, getD-take, getD-drop}
 use borrow.Author.Tests.{eq-eqb, ne-eqb, not-true}
 use Rattle.array.specs.Index.{allBelow, fill, from}
 use Rattle.array.specs.Bit.{bit}
 use Rattle.array.proofs.TestLaws.{split, and-both, and-false-left, and-false-right}
 use Rattle.array.proofs.IndexLaws.{allBelow-at, allBelow-fails}
 use Rattle.array.proofs.PlacesLaws.{fill-length, fill-in, fill-more, from-length, from-at}
+use Rattle.array.proofs.PlacedLaws.{part-length}
 use Rattle.pattern.specs.Pattern.{valueOf}
 use Rattle.plan.specs.declared.Op.{Op}
 use Rattle.plan.specs.declared.Op.the-variants.{Take, Sum, Diff, Scale, Limit, Wind, Cam}
 use Rattle.plan.specs.declared.Task.{Task}
 use Rattle.plan.specs.declared.Plan.{Plan}
 use Rattle.plan.specs.Limits.{mostFrames, mostCells, mostTasks, mostActuators}
-use Rattle.plan.specs.Known.{unusedTask, votePlace, voteFrame, voteCell}
+use Rattle.plan.specs.Tables.{unusedTask, votePlace, voteFrame, voteCell}
 use Rattle.plan_grammar.specs.Line.{kindOf, isTask, takeKind, sumKind, diffKind, scaleKind, limitKind, windKind, camKind}
 use Rattle.plan_grammar.specs.Meant.{zeroPlan, opOf, taskOf}
 use Rattle.plan_grammar.specs.Refused.{taskZeros}
@@ -46,6 +47,13 @@ fill-is f n l v d e h g =
 fill-from : (s : List ℕ) (at n : ℕ) (l : List ℕ) → length l ≡ n → fill (λ i. getD s (at + i) 0) n l ≡ from 0 s at n
 fill-from s at n l e =
     fill-is (λ i. getD s (at + i) 0) n l (from 0 s at n) 0 e (from-length 0 s at n) (λ i k. sym (from-at 0 s at n i k))
+
+-- as a part
+part-from : (s : List ℕ) (at n : ℕ) → at + n ≤ length s → take n (drop at s) ≡ from 0 s at n
+part-from s at n l =
+    let long : length (take n (drop at s)) ≡ n = part-length s at n n refl l in
+    ext-getD 0 (take n (drop at s)) (from 0 s at n) (long ∙ sym (from-length 0 s at n))
+    (λ i h. let k : i < n = omega arith in getD-take n (drop at s) i 0 k ∙ getD-drop at s i 0 ∙ sym (from-at 0 s at n i k))
 
 -- four places more are stored
 fill-four :
@@ -262,7 +270,7 @@ module _ (ws : List ℕ) where
 
   pub plan-read :
       {initial cells : List ℕ} {tasks : List Task} {voted : List Bool} → length ws ≡ planSize → allBelow (voteWords ws) mostFrames ≡ true → allBelow (taskWords ws) mostTasks ≡ true
-      → initial ≡ fill (λ c. getD ws (initialAt + c) 0) mostCells (replicate mostCells 0)
+      → initial ≡ take mostCells (drop initialAt ws)
       → tasks ≡ fill (λ k. taskOf (taskIn ws k)) mostTasks (replicate mostTasks unusedTask)
       → voted ≡ fill (votesIn ws) (mostFrames * mostCells) (replicate (mostFrames * mostCells) false)
       → cells ≡ fill (λ i. getD ws (actuatorsAt + i) 0) mostActuators (replicate mostActuators 0)
@@ -281,4 +289,4 @@ module _ (ws : List ℕ) where
       ≡ planOfWords ws
   unfolding planOfWords planIn
   plan-read e v t hi ht hv ha =
-      rw (words-ok e v t, hi, ht, hv, ha, fill-from ws initialAt mostCells (replicate mostCells 0) (length-replicate {A = ℕ} mostCells 0), fill-from ws actuatorsAt mostActuators (replicate mostActuators 0) (length-replicate {A = ℕ} mostActuators 0))
+      rw (words-ok e v t, hi, ht, hv, ha, part-from ws initialAt mostCells (omega (arith, e)), fill-from ws actuatorsAt mostActuators (replicate mostActuators 0) (length-replicate {A = ℕ} mostActuators 0))

@@ -9,7 +9,7 @@ use Rattle.array.specs.Index.{allBelow, fill, joined, from}
 use Rattle.array.specs.Bit.{bit}
 use Rattle.plan.specs.declared.Plan.{Plan}
 use Rattle.plan.specs.Limits.{mostFrames, mostCells, mostTasks, mostActuators}
-use Rattle.plan.specs.Known.{unusedTask, taskAt, voteFrame, voteCell, votedIn}
+use Rattle.plan.specs.Tables.{unusedTask, taskAt, voteFrame, voteCell, votedIn}
 use Rattle.plan_grammar.specs.Line.{kindOf, isTask}
 use Rattle.plan_grammar.specs.Meant.{zeroPlan, taskOf}
 use Rattle.plan_grammar.specs.Refused.{taskZeros}
@@ -40,13 +40,13 @@ planSize = actuatorsAt + mostActuators
 -- ---- from a plan to words
 
 -- the number whose bits below n are these
-unfoldable pub ofBits : (ℕ → Bool) → ℕ → ℕ
-ofBits q zero = 0
-ofBits q (suc k) = ofBits q k + cond (q k) (2 ^ k) 0
+unfoldable pub numberOfBits : (ℕ → Bool) → ℕ → ℕ
+numberOfBits q zero = 0
+numberOfBits q (suc k) = numberOfBits q k + cond (q k) (2 ^ k) 0
 
 -- bit c: cell c is voted in frame g
 unfoldable pub voteWord : Plan → ℕ → ℕ
-voteWord p g = ofBits (votedIn p g) mostCells
+voteWord p g = numberOfBits (votedIn p g) mostCells
 
 unfoldable pub planWords : Plan → List ℕ
 planWords p =

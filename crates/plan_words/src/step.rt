@@ -8,14 +8,14 @@ ghost use lib.ListN.{length, getD, set};
 ghost use Rattle.array.specs.Index.{allBelow, fill, joined, from};
 ghost use Rattle.array.specs.Bit.{bit};
 ghost use Rattle.plan.specs.Limits.{mostFrames, mostCells, mostTasks, mostActuators};
-ghost use Rattle.plan.specs.Known.{taskAt, voteFrame, voteCell, votePlace};
+ghost use Rattle.plan.specs.Tables.{taskAt, voteFrame, voteCell, votePlace};
 ghost use Rattle.plan.specs.Accepted.{accepted};
 ghost use Rattle.plan_grammar.specs.Line.{isTask};
 ghost use Rattle.plan_grammar.specs.Meant.{taskOf};
 ghost use Rattle.plan_grammar.specs.Refused.{taskZeros};
 ghost use Rattle.plan_grammar.specs.Written.{taskLine};
 ghost use Rattle.plan_line.specs.Code.{numbersIn};
-ghost use Rattle.plan_words.specs.Words.{initialAt, actuatorsAt, taskSize, planSize, ofBits, planWords, taskIn, voteIn, voteWords, planOfWords};
+ghost use Rattle.plan_words.specs.Words.{initialAt, actuatorsAt, taskSize, planSize, numberOfBits, planWords, taskIn, voteIn, voteWords, planOfWords};
 ghost use Rattle.plan_words.specs.Code.{taskRead};
 use pattern::WindLaw;
 use plan::Op;
@@ -123,17 +123,6 @@ fn votes_ok(words: &[u64]) -> bool
         g += 1;
     }
     true
-}
-
-fn initial_in(words: &[u64], initial: &mut [u64; Plan::CELLS])
-    requires { ⌜ length (now words) ≡ planSize ⌝ }
-    ensures { λ _. ⌜ now (initial .exit) ≡ fill (λ c. getD (now (words .entry)) (initialAt + c) 0) mostCells (now (initial .entry)) ⌝ }
-{
-    let mut c: usize = 0;
-    while c < Plan::CELLS {
-        initial[c] = words[INITIAL + c];
-        c += 1;
-    }
 }
 
 // Four votes at once, from a table of the bits of 0 to 15: bit by bit they cost three times as much.
@@ -261,7 +250,7 @@ pub fn plan(words: &[u64]) -> Plan
     let mut initial = [0u64; Plan::CELLS];
     let mut voted = [false; Plan::VOTES];
     let mut actuator_cell = [0usize; Plan::ACTUATORS];
-    initial_in(words, &mut initial);
+    array::step::copy(&words[INITIAL..TASKS], &mut initial);
     votes_in(words, &mut voted);
     actuators_in(words, &mut actuator_cell);
     let unused = Task {
@@ -306,17 +295,6 @@ fn put_counts(plan: Plan, out: &mut [u64])
     out[5] = plan.task_count as u64;
 }
 
-fn put_initial(initial: &[u64; Plan::CELLS], out: &mut [u64])
-    requires { ⌜ length (now out) ≡ mostCells ⌝ }
-    ensures { λ _. ⌜ now (out .exit) ≡ from 0 (now (initial .entry)) 0 mostCells ⌝ }
-{
-    let mut c: usize = 0;
-    while c < Plan::CELLS {
-        out[c] = initial[c];
-        c += 1;
-    }
-}
-
 fn put_task(l: Line, out: &mut [u64])
     requires { ⌜ length (now out) ≡ taskSize ⌝ }
     ensures { λ _. ⌜ now (out .exit) ≡ numbersIn l ⌝ }
@@ -345,7 +323,7 @@ fn put_tasks(plan: Plan, out: &mut [u64])
 // Bit c says whether cell c is voted in a frame.
 fn vote_word(voted: &[bool; Plan::VOTES], frame: usize) -> u64
     requires { ⌜ frame < mostFrames ⌝ }
-    ensures { λ r. ⌜ r ≡ ofBits (λ c. getD (now (voted .entry)) (votePlace frame c) false) mostCells ⌝ }
+    ensures { λ r. ⌜ r ≡ numberOfBits (λ c. getD (now (voted .entry)) (votePlace frame c) false) mostCells ⌝ }
 {
     let mut word: u64 = 0;
     let mut c: usize = 0;
@@ -360,7 +338,7 @@ fn vote_word(voted: &[bool; Plan::VOTES], frame: usize) -> u64
 
 fn put_votes(voted: &[bool; Plan::VOTES], out: &mut [u64])
     requires { ⌜ length (now out) ≡ mostFrames ⌝ }
-    ensures { λ _. ⌜ now (out .exit) ≡ joined (λ g. ofBits (λ c. getD (now (voted .entry)) (votePlace g c) false) mostCells ∷ []) mostFrames ⌝ }
+    ensures { λ _. ⌜ now (out .exit) ≡ joined (λ g. numberOfBits (λ c. getD (now (voted .entry)) (votePlace g c) false) mostCells ∷ []) mostFrames ⌝ }
 {
     let mut g: usize = 0;
     while g < Plan::FRAMES {
@@ -385,7 +363,7 @@ pub fn put(plan: Plan, words: &mut [u64])
     ensures { λ _. ⌜ now (words .exit) ≡ planWords plan ⌝ }
 {
     put_counts(plan, &mut words[0..INITIAL]);
-    put_initial(&plan.initial, &mut words[INITIAL..TASKS]);
+    array::step::copy(&plan.initial, &mut words[INITIAL..TASKS]);
     put_tasks(plan, &mut words[TASKS..VOTES]);
     put_votes(&plan.voted, &mut words[VOTES..ACTUATORS]);
     put_actuators(&plan.actuator_cell, &mut words[ACTUATORS..SIZE]);

@@ -1,24 +1,26 @@
 -- Writing into a buffer, part after part: what each write says of `placed`.
-use mathlib.Core.Path.{_≡_, sym, ap, _∙_}
+use mathlib.Core.Path.{_≡_, refl, sym, ap, _∙_}
 use mathlib.Core.Bool.{Bool, true, false}
 use mathlib.Core.List.{List, [], _∷_, _++_, append-assoc, append-nil}
-use Prim.Native.Nat.{ℕ, _+_, _*_, _≤_}
+use Prim.Native.Nat.{ℕ, _+_, _-_, _*_, _≤_}
 use native.Mathlib.Omega.{arith}
 use native.Mathlib.Nat.{zero-add}
 use native.Mathlib.Numerals.{add-one}
-use lib.ListN.{length, getD, set, drop, length-append, length-set}
+use lib.ListN.{length, getD, set, take, drop, length-append, length-set}
 use lib.Seq.{set-split}
+use borrow.Rule.Slice.PartMut.{putMid}
 use Rattle.array.specs.Index.{joined}
 use Rattle.array.proofs.PlacedLaws.{placed-none, placed-length, placed-next}
 use Rattle.array.proofs.PlacesLaws.{joined-none, joined-more}
 use Rattle.column.specs.Column.{column}
 use Rattle.column.specs.Row.{row}
-use Rattle.column.proofs.BufferLaws.{Laid, laid-length}
+use Rattle.column.proofs.ColumnLaws.{column-length}
+use Rattle.column.proofs.BufferLaws.{Laid, laid-length, laid-none, lay}
 use Rattle.plan.specs.declared.Plan.{Plan}
 use Rattle.plan.specs.Limits.{mostFrames, mostCells}
-use Rattle.plan.specs.Known.{taskAt, voteFrame, voteCell}
+use Rattle.plan.specs.Tables.{taskAt, voteFrame, voteCell}
 use Rattle.plan_grammar.specs.Line.{widths, lineSize, cellKind, actuatorKind}
-use Rattle.array.specs.Place.{placed}
+use Rattle.array.specs.Code.{placed}
 use Rattle.plan_grammar.specs.Written.{headerLine, taskLine, voteLine, planText}
 use Rattle.plan_grammar.proofs.LineLaws.{row-size}
 use Rattle.plan_grammar.proofs.WrittenLaws.{voteRow, votesBelow, rows-length, voteRows-length, text-parts}
@@ -43,12 +45,40 @@ line-ended {s} {t} {r} {xs} {at} l f e =
           ∙ ap (placed s at) e;
     }
 
+-- one column more is laid by a call that places it
+laid-more : {s t xs ys : List ℕ} {at n : ℕ} (a w v : ℕ) → Laid s at n t xs → a ≡ at + n → at ≤ length s → ys ≡ placed xs a (column w v) → Laid s at (n + w) (t ++ column w v) ys
+laid-more {s} {t} {xs} {ys} {at} {n} a w v l e f h =
+    record {
+      holds = h ∙ placed-next s at t xs (column w v) a (l .holds) (omega (arith, l .bytes, e)) f;
+      bytes = length-append t (column w v) ∙ rw (l .bytes, column-length w v);
+    }
+
 pub row-columns :
     (k b c d e f : ℕ) →
     (((((([] ++ column 4 k) ++ column 4 b) ++ column 4 c) ++ column 4 d) ++ column 20 e) ++ column 20 f) ++ (10 ∷ [])
     ≡ row widths (k ∷ b ∷ c ∷ d ∷ e ∷ f ∷ [])
 unfolding row
 row-columns k b c d e f = simp append-assoc
+
+pub line-filled :
+    (s : List ℕ) (n k b c d e f : ℕ) (y1 y2 y3 y4 y5 y6 : List ℕ) →
+    n + 57 ≤ length s →
+    y1 ≡ placed s n (column 4 k) →
+    y2 ≡ placed y1 (n + 4) (column 4 b) →
+    y3 ≡ placed y2 (n + 8) (column 4 c) →
+    y4 ≡ placed y3 (n + 12) (column 4 d) →
+    y5 ≡ placed y4 (n + 16) (column 20 e) →
+    y6 ≡ placed y5 (n + 36) (column 20 f) →
+    Filled s n (row widths (k ∷ b ∷ c ∷ d ∷ e ∷ f ∷ [])) y6
+line-filled s n k b c d e f y1 y2 y3 y4 y5 y6 room h1 h2 h3 h4 h5 h6 =
+    let start : n ≤ length s = omega arith in
+    let l1 = laid-more n 4 k (laid-none s n) (omega arith) start h1 in
+    let l2 = laid-more (n + 4) 4 b l1 refl start h2 in
+    let l3 = laid-more (n + 8) 4 c l2 refl start h3 in
+    let l4 = laid-more (n + 12) 4 d l3 refl start h4 in
+    let l5 = laid-more (n + 16) 20 e l4 refl start h5 in
+    let l6 = laid-more (n + 36) 20 f l5 refl start h6 in
+    line-ended l6 room (row-columns k b c d e f)
 
 -- ---- lines from line `from` of the buffer on: one for each index
 

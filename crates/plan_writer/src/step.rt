@@ -5,13 +5,14 @@ ghost use mathlib.Core.List.{[], _∷_, _++_};
 ghost use Prim.Native.Nat.{_+_, _*_, _≤_};
 ghost use lib.ListN.{length, getD, drop};
 ghost use Rattle.array.specs.Index.{howMany, joined};
+ghost use Rattle.column.specs.Column.{column};
 ghost use Rattle.column.specs.Row.{row};
 ghost use Rattle.plan.specs.Limits.{mostCells, mostFrames, mostTasks, mostActuators};
-ghost use Rattle.plan.specs.Known.{taskAt, voteFrame, voteCell};
+ghost use Rattle.plan.specs.Tables.{taskAt, voteFrame, voteCell};
 ghost use Rattle.plan.specs.Accepted.{accepted};
 ghost use Rattle.plan_grammar.specs.Line.{widths, lineSize, mostTextLines, cellKind, actuatorKind};
 ghost use Rattle.plan_grammar.specs.Written.{opLine, taskLine, voteLine, planText};
-ghost use Rattle.array.specs.Place.{placed};
+ghost use Rattle.array.specs.Code.{placed};
 ghost use Rattle.plan_line.specs.Code.{numbersIn};
 use plan::Op;
 use plan::Plan;
@@ -31,27 +32,23 @@ fn numbers(kind: usize, second: usize, third: usize, fourth: usize, fifth: u64, 
     }
 }
 
+// The widths of a line's columns: four narrow ones, then two wide ones.
+const NARROW: usize = 4;
+
+const WIDE: usize = 20;
+
 // Fills line i of the buffer.
 fn write_line(out: &mut [u8], i: usize, l: Line)
     requires { ⌜ (lineSize * i + lineSize ≤ length (now out)) × (i ≤ mostTextLines) ⌝ }
     ensures { λ _. ⌜ now (out .exit) ≡ placed (now (out .entry)) (lineSize * i) (row widths (numbersIn l)) ⌝ }
 {
     let at = Line::SIZE * i;
-    column::write(&mut out[at..at + Line::SECOND], l.kind as u64);
-    column::write(
-        &mut out[at + Line::SECOND..at + Line::THIRD],
-        l.second as u64,
-    );
-    column::write(
-        &mut out[at + Line::THIRD..at + Line::FOURTH],
-        l.third as u64,
-    );
-    column::write(
-        &mut out[at + Line::FOURTH..at + Line::FIFTH],
-        l.fourth as u64,
-    );
-    column::write(&mut out[at + Line::FIFTH..at + Line::SIXTH], l.fifth);
-    column::write(&mut out[at + Line::SIXTH..at + Line::FEED], l.sixth);
+    column_write::step::put(out, at, NARROW, l.kind as u64);
+    column_write::step::put(out, at + Line::SECOND, NARROW, l.second as u64);
+    column_write::step::put(out, at + Line::THIRD, NARROW, l.third as u64);
+    column_write::step::put(out, at + Line::FOURTH, NARROW, l.fourth as u64);
+    column_write::step::put(out, at + Line::FIFTH, WIDE, l.fifth);
+    column_write::step::put(out, at + Line::SIXTH, WIDE, l.sixth);
     out[at + Line::FEED] = b'\n';
 }
 

@@ -27,7 +27,9 @@ use Rattle.plan_text.specs.declared.TextWritten.{TextWritten}
 use Rattle.plan_text.specs.declared.PlanRead.{PlanRead}
 use Rattle.history.specs.declared.HistoriesListed.{HistoriesListed}
 use Rattle.history.specs.Answers.{historiesAnswer, historiesPlace}
-use Rattle.plan_text.specs.Answers.{readAnswer, readPeriod, writeAnswer, writePlace}
+use Rattle.plan_text.specs.Answers.{readAnswer}
+use Rattle.plan_text_write.specs.Answers.{writeAnswer, writePlace}
+use Rattle.plan_text.specs.Code.{readPeriod}
 use Rattle.plan_grammar.specs.Refused.{textRefusal}
 use Rattle.plan_grammar.specs.Meant.{zeroPlan, planOf}
 use Rattle.plan_words.specs.Words.{planSize, planWords, planOfWords}
@@ -41,7 +43,9 @@ use Rattle.system.specs.declared.Started.{Started}
 use Rattle.system.specs.declared.Framed.{Framed}
 use Rattle.system.specs.declared.Counted.{Counted as SystemCounted}
 use Rattle.system.specs.System.{powerOn, systemPowerOnAnswer}
-use Rattle.system.specs.Frame.{maskOk, countsOk, lengthsOk, singleTests, singleAnswer, singlePlaceAfter, frameTests as systemTests, frameAnswer, framePlace, workingTests as systemWorkingTests, workingAnswer, equalTests as systemEqualTests, equalAnswer}
+use Rattle.system.specs.CountCalls.{workingTests as systemWorkingTests, workingAnswer, equalTests as systemEqualTests, equalAnswer}
+use Rattle.system.specs.Single.{singleTests, singleAnswer, singlePlaceAfter}
+use Rattle.system.specs.FrameCall.{maskOk, countsOk, lengthsOk, frameTests as systemTests, frameAnswer, framePlace}
 use Rattle.system_words.specs.Words.{codeOf, memoryOfWords, patternCount, rowsOk, systemOfWords, countersOf, patternsOf, countsAlone}
 use Rattle.system_words.proofs.WordsLaws.{rows-lengths, counters-back, patterns-back, good-back}
 use Rattle.ragbasalt.specs.Calls.{readCall, wordsTests, countGiven, placeGiven, textGiven, historiesGiven, memoryGiven, voteGiven, singleGiven, rowsGiven, frameGiven, writeCall, historiesCall, checkCall, periodCall, sizeCall, nodeTests, cellsRefused, memoryCall, agreedCall, placeCall, powerOnCall, computeCall, voteCall, messageCall, setpointsCall, singleRight, singleCall, countsTests, rowsRight, startCallTests, startCall, frameCallTests, frameCall, equalCallTests, equalCall, workingCallTests, workingCall}

@@ -19,7 +19,7 @@ use Rattle.plan_grammar.specs.Earlier.{refusalBefore, NotFew}
 use Rattle.plan_grammar.proofs.EarlierLaws.{text-kept}
 use Rattle.plan_text.specs.Answers.{readAnswer}
 use Rattle.plan_words.specs.Words.{planWords, planOfWords}
-use Rattle.system.specs.Frame.{maskOk, countsOk}
+use Rattle.system.specs.FrameCall.{maskOk, countsOk}
 use Rattle.system_words.specs.Words.{codeOf, rowsOk, countsAlone}
 use Rattle.ragbasalt.specs.Calls.{placeGiven, wordsTests, readCall, nodeTests, cellsRefused, countsTests, startCallTests}
 

@@ -15,7 +15,8 @@ use Rattle.plan.specs.Known.{period}
 use Rattle.plan_period.specs.Answers.{planTests, checked, periodFound}
 use Rattle.plan_grammar.specs.Refused.{textRefusal}
 use Rattle.plan_grammar.specs.Meant.{planOf}
-use Rattle.plan_text.specs.Answers.{readAnswer, writeAnswer, writePlace}
+use Rattle.plan_text.specs.Answers.{readAnswer}
+use Rattle.plan_text_write.specs.Answers.{writeAnswer, writePlace}
 use Rattle.plan_words.specs.Words.{planSize, planWords, planOfWords}
 use Rattle.history.specs.Answers.{historiesAnswer, historiesPlace}
 use Rattle.memory.specs.declared.Memory.{Memory}
@@ -24,7 +25,10 @@ use Rattle.memory.specs.Size.{messageSize, mailboxSize}
 use Rattle.system.specs.declared.System.{System}
 use Rattle.system.specs.System.{powerOn}
 use Rattle.system.specs.Counts.{isWorking}
-use Rattle.system.specs.Frame.{memoryOf, maskOk, countsOk, lengthsOk, systemAfter, placeAfter, frameAgreement, singlePlace, sameMemory}
+use Rattle.system.specs.Frame.{memoryOf, systemAfter, placeAfter, frameAgreement}
+use Rattle.system.specs.CountCalls.{sameMemory}
+use Rattle.system.specs.Single.{singlePlace}
+use Rattle.system.specs.FrameCall.{maskOk, countsOk, lengthsOk}
 use Rattle.system_words.specs.Words.{codeOf, memoryOfWords, rowsOk, systemOfWords, countersOf, patternsOf, countsAlone}
 
 -- ---- what a call gives, and what then stands where it was lent a place

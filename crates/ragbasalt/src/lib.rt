@@ -47,7 +47,7 @@ pub extern "C" fn ragbasalt_plan_write(plan: &[u64], text: &mut [u8], count: &mu
     ensures { λ r. ⌜ textGiven r (now (text .exit)) (now (count .exit)) ≡ writeCall (now (plan .entry)) (now (text .entry)) ⌝ }
 {
     let p = plan_words::step::plan(plan);
-    let written = plan_text::write(p, text);
+    let written = plan_text_write::write(p, text);
     *count = written.count;
     let answer = written.answer;
     system_words::step::code(answer)
@@ -262,7 +262,7 @@ pub extern "C" fn ragbasalt_single_frame(
         return cells_refused(p);
     }
     let m = system_words::step::memory(*counter, cells);
-    let made = frame::single(p, m, sensors, setpoints);
+    let made = single::frame(p, m, sensors, setpoints);
     system_words::step::put_memory(made.memory, counter, cells);
     let answer = made.answer;
     system_words::step::code(answer)
@@ -297,7 +297,7 @@ fn rows_refused(plan: Plan, good: &[u16], mask: u64) -> u64
     ensures { λ r. ⌜ r ≡ codeOf (answered (countsTests plan (now (good .entry)) mask false)) ⌝ }
 {
     let system = system_words::step::counts_alone(good);
-    let tried = frame::working(plan, system, mask);
+    let tried = count_calls::working(plan, system, mask);
     let answer = tried.answer;
     if answer.number() != 0 {
         return system_words::step::code(answer);
@@ -347,7 +347,7 @@ pub extern "C" fn ragbasalt_system_working(
         return rows_refused(p, good, mask);
     }
     let system = system_words::step::counts_alone(good);
-    let made = frame::working(p, system, mask);
+    let made = count_calls::working(p, system, mask);
     *count = made.count;
     let answer = made.answer;
     system_words::step::code(answer)
@@ -374,7 +374,7 @@ pub extern "C" fn ragbasalt_system_equal(
     }
     let system = system_words::step::system(counters, cells, good);
     let m = system_words::step::memory(counter, single);
-    let made = frame::equal(p, system, m);
+    let made = count_calls::equal(p, system, m);
     *count = made.count;
     let answer = made.answer;
     system_words::step::code(answer)

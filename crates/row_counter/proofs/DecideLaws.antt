@@ -1,4 +1,4 @@
--- Laws of what is decided once, and of the counter: each way through the code leaves what each good node would have counted.
+-- Laws of the counter: each way through the code leaves what each good node would have counted.
 use mathlib.Core.Path.{_≡_, refl, sym, ap, _∙_}
 use mathlib.Core.List.{List}
 use mathlib.Core.Option.{Option, none, some}
@@ -9,19 +9,13 @@ use Rattle.plan.specs.declared.Sizes.{Sizes}
 use Rattle.plan.specs.Limits.{mostFrames}
 use Rattle.ballot.specs.Majority.{holders, majority, agreement, orOwn}
 use Rattle.ballot.specs.Code.{Told}
-use Rattle.memory.specs.Node.{counterFrom}
-use Rattle.system.specs.Fault.{faultMessageAt}
-use Rattle.row_counter.specs.Code.{Put, frameBefore, isGood, goodOnly, agreedFrame, heardCounter, counterAfter, counterAgreement}
+use Rattle.row_word.specs.Code.{isGood, goodOnly, faultWord, heardWord}
+use Rattle.row_word.proofs.HeardLaws.{told-word, decided-of}
+use Rattle.row_word.proofs.AgreementLaws.{least-of-each, least-of-none, least-of-decided}
+use Rattle.row_counter.specs.Code.{Put, frameBefore, agreedFrame, counterAfter, counterAgreement}
 use Rattle.row_counter.proofs.PutLaws.{put-idle, put-same}
-use Rattle.row_counter.proofs.HeardLaws.{told-word, good-same, counter-settled, counter-kept, counter-alone, counter-read}
+use Rattle.row_counter.proofs.HeardLaws.{counter-settled, counter-kept, counter-alone, counter-read}
 use Rattle.row_counter.proofs.VoteLaws.{agreed-none, agreed-below, agreed-above}
-use Rattle.row_counter.proofs.AgreementLaws.{least-of-each, least-of-none, least-of-decided}
-
--- what was decided of words that were read is decided of what was sent
-pub decided-of :
-    (mask n : ℕ) (w : ℕ → ℕ) (words : List ℕ) → Told (λ j. some (w j)) n words → {o : Option ℕ} → o ≡ majority (goodOnly mask (λ j. getD words j 0)) n →
-    majority (goodOnly mask w) n ≡ o
-decided-of mask n w words t d = good-same mask n w (λ j. getD words j 0) (told-word w n words t) ∙ sym d
 
 -- ---- the counter
 
@@ -40,15 +34,15 @@ module _ (s : Sizes) (mask : ℕ) (faults counters words : List ℕ) (told : Tol
 
   -- what is said of the counter to receiver i
   abbrev fault : ℕ → ℕ → Option ℕ
-  fault i j = counterFrom faults (faultMessageAt s j i)
+  fault = faultWord s mask faults 0
 
   abbrev read : (j : ℕ) → j < s .nodes → sent j ≡ getD words j 0
   read = told-word sent (s .nodes) words told
 
   pub counter-each :
       {counters' : List ℕ} {a : ℕ} → o ≡ none →
-      Put suc (isGood mask) (λ i. orOwn (s .frames) (sent i) (majority (heardCounter s mask faults (λ j. getD words j 0) i) (s .nodes))) (s .nodes) counters counters' →
-      a ≡ lesser (s .nodes) (least (isGood mask) (λ i. agreement (heardCounter s mask faults (λ j. getD words j 0) i) (s .nodes)) (s .nodes)) →
+      Put suc (isGood mask) (λ i. orOwn (s .frames) (sent i) (majority (heardWord s mask faults (λ j. getD words j 0) 0 i) (s .nodes))) (s .nodes) counters counters' →
+      a ≡ lesser (s .nodes) (least (isGood mask) (λ i. agreement (heardWord s mask faults (λ j. getD words j 0) 0 i) (s .nodes)) (s .nodes)) →
       Outcome mostFrames a counters'
   unfolding counterAgreement
   counter-each {counters'} e p h = (
@@ -65,7 +59,7 @@ module _ (s : Sizes) (mask : ℕ) (faults counters words : List ℕ) (told : Tol
     least-of-none mask (s .nodes) (s .nodes) fault sent (λ j. getD words j 0) read d e z pos,
   )
 
-  module _ (x : ℕ) (e : o ≡ some x) {a : ℕ} (h : a ≡ lesser (s .nodes) (least (isGood mask) (λ i. holders (heardCounter s mask faults (λ j. getD words j 0) i) (s .nodes) x) (s .nodes))) where
+  module _ (x : ℕ) (e : o ≡ some x) {a : ℕ} (h : a ≡ lesser (s .nodes) (least (isGood mask) (λ i. holders (heardWord s mask faults (λ j. getD words j 0) 0 i) (s .nodes) x) (s .nodes))) where
     agreed : a ≡ lesser (s .nodes) (least (isGood mask) (counterAgreement s mask faults counters) (s .nodes))
     unfolding counterAgreement
     agreed = least-of-decided mask (s .nodes) (s .nodes) fault sent (λ j. getD words j 0) read d x e h

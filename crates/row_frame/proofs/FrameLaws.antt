@@ -18,7 +18,8 @@ use Rattle.array.proofs.PlacesLaws.{fill-length, fill-in, fill-out, fill-same}
 use Rattle.plan.specs.declared.Plan.{Plan}
 use Rattle.plan.specs.declared.Sizes.{Sizes}
 use Rattle.plan.specs.Limits.{mostNodes, mostFrames, mostCells}
-use Rattle.plan.specs.Known.{votedIn, period}
+use Rattle.plan.specs.Known.{period}
+use Rattle.plan.specs.Tables.{votedIn}
 use Rattle.plan.specs.Accepted.{accepted}
 use Rattle.plan.specs.Sizes.{sizesWith, sizesOf}
 use Rattle.plan.proofs.AcceptedLaws.{Shape, shape-of-accepted}
@@ -42,8 +43,9 @@ use Rattle.faults.specs.Code.{Small}
 use Rattle.faults.proofs.LayoutLaws.{small-of-shape}
 use Rattle.rows.specs.Code.{wordPlace, memoryIn, Rows, Stored, Through}
 use Rattle.rows.proofs.RowLaws.{row-at, memory-eq}
-use Rattle.row_counter.specs.Code.{frameBefore, isGood, heardCounter, counterAfter, counterAgreement}
-use Rattle.row_vote.specs.Code.{votedAt, sentWord, votedBy, heardWord, wordAgreement, sentFrame, votedRow, rowAgreement}
+use Rattle.row_word.specs.Code.{isGood, heardWord}
+use Rattle.row_counter.specs.Code.{frameBefore, counterAfter, counterAgreement}
+use Rattle.row_vote.specs.Code.{votedAt, sentWord, votedBy, wordAgreement, sentFrame, votedRow, rowAgreement}
 use Rattle.row_frame.specs.Code.{ran, spoiled, closedRow, putFrom}
 
 -- ---- the numbers of an accepted plan
@@ -188,7 +190,7 @@ module _
       unfolding heard
       bin-bad j t = rw t
 
-      counter-heard : (j : ℕ) → j < p .nodes → heardCounter (sizesOf p) mask faults (λ k. getD counters (suc k) 0) i j ≡ counterIn p (mailboxOf p sys sensors mask faults i) j
+      counter-heard : (j : ℕ) → j < p .nodes → heardWord (sizesOf p) mask faults (λ k. getD counters (suc k) 0) 0 i j ≡ counterIn p (mailboxOf p sys sensors mask faults i) j
       unfolding mailboxOf faultMessage
       counter-heard j l =
           split (bit mask j)
@@ -206,7 +208,7 @@ module _
 
       word-heard :
           (c j : ℕ) → c < p .cells → j < p .nodes →
-          heardWord (sizesOf p) mask faults (sentWord (p .voted) (sentFrame (p .voted) (sizesOf p) mask faults counters cells) cells c) c i j ≡ cellIn p (mailboxOf p sys sensors mask faults i) c j
+          heardWord (sizesOf p) mask faults (sentWord (p .voted) (sentFrame (p .voted) (sizesOf p) mask faults counters cells) cells c) (suc c) i j ≡ cellIn p (mailboxOf p sys sensors mask faults i) c j
       unfolding mailboxOf faultMessage
       word-heard c j k l =
           split (bit mask j)
@@ -227,8 +229,8 @@ module _
         (λ t. rw t (fault-computed p shape faults sensors i (memoryOf sys i)))
         (λ t. rw t
         (voted-by p (own i) (mailboxOf p sys sensors mask faults i)
-        (heardCounter (sizesOf p) mask faults (λ j. getD counters (suc j) 0) i)
-        (λ c. heardWord (sizesOf p) mask faults (sentWord (p .voted) (sentFrame (p .voted) (sizesOf p) mask faults counters cells) cells c) c i)
+        (heardWord (sizesOf p) mask faults (λ j. getD counters (suc j) 0) 0 i)
+        (λ c. heardWord (sizesOf p) mask faults (sentWord (p .voted) (sentFrame (p .voted) (sizesOf p) mask faults counters cells) cells c) (suc c) i)
         (counter-heard i) (word-heard i)))
 
     -- ---- the agreement
@@ -238,8 +240,8 @@ module _
     agreement-after i l =
         rw (own-counter i l)
         (agreed-by p (own i) (mailboxOf p sys sensors mask faults i)
-        (heardCounter (sizesOf p) mask faults (λ j. getD counters (suc j) 0) i)
-        (λ c. heardWord (sizesOf p) mask faults (sentWord (p .voted) (sentFrame (p .voted) (sizesOf p) mask faults counters cells) cells c) c i)
+        (heardWord (sizesOf p) mask faults (λ j. getD counters (suc j) 0) 0 i)
+        (λ c. heardWord (sizesOf p) mask faults (sentWord (p .voted) (sentFrame (p .voted) (sizesOf p) mask faults counters cells) cells c) (suc c) i)
         (counter-heard i) (word-heard i))
 
     pub frame-agreed :

@@ -19,7 +19,7 @@ ghost use Rattle.system.specs.Counts.{goodAfter};
 ghost use Rattle.system.specs.Frame.{systemAfter, placeAfter, frameAgreement};
 ghost use Rattle.faults.specs.Code.{Small, Parts};
 ghost use Rattle.rows.specs.Code.{rowCount, wordCount, memoryIn, Rows, Through};
-ghost use Rattle.row_counter.specs.Code.{isGood};
+ghost use Rattle.row_word.specs.Code.{isGood};
 ghost use Rattle.row_vote.specs.Code.{rowAgreement};
 ghost use Rattle.row_frame.specs.Code.{spoiled, closedRow, putFrom};
 use plan::Plan;
@@ -34,7 +34,7 @@ fn fault_row(row: &mut [u64], count: usize, faults: &[u8], at: usize)
 {
     let mut c: usize = 0;
     while c < count {
-        row[c] = array::step::read8(faults, at + memory::step::cell_at(c));
+        row[c] = array::step::read_be8(faults, at + memory::step::cell_at(c));
         c += 1;
     }
 }
@@ -51,7 +51,7 @@ fn spoil(s: Sizes, mask: u64, faults: &[u8], counters: &mut [u16], cells: &mut [
         if counts::step::is_bad(mask, j) {
             let from = faults::step::part_at(s, j);
             let at = Plan::CELLS * (j + 1);
-            counters[j + 1] = array::step::read2(faults, from);
+            counters[j + 1] = array::step::read_be2(faults, from);
             fault_row(&mut cells[at..at + Plan::CELLS], count, faults, from);
         }
         j += 1;
@@ -77,7 +77,7 @@ fn put_out(
     let mut j: usize = 0;
     while j < nodes {
         if counts::step::is_bad(mask, j) {
-            values[j] = array::step::read8(faults, faults::step::setpoint_at(s, j, a));
+            values[j] = array::step::read_be8(faults, faults::step::setpoint_at(s, j, a));
         } else {
             values[j] = cells[Plan::CELLS * (j + 1) + cell];
         }

@@ -20,10 +20,9 @@ use Rattle.plan.specs.Limits.{mostFrames}
 use Rattle.ballot.specs.Majority.{majority}
 use Rattle.ballot.proofs.MajorityLaws.{no-some, holders-some, majority-some}
 use Rattle.ballot.proofs.AgreementLaws.{agreement-bound}
-use Rattle.memory.specs.Node.{cellFrom}
-use Rattle.system.specs.Fault.{faultMessageAt}
-use Rattle.row_counter.specs.Code.{frameBefore, isGood, goodOnly, agreedFrame, heardCounter, counterAfter, counterAgreement}
-use Rattle.row_counter.proofs.HeardLaws.{good-none, heard-agreement}
+use Rattle.row_counter.specs.Code.{frameBefore, agreedFrame, counterAfter, counterAgreement}
+use Rattle.row_word.specs.Code.{faultWord, isGood, goodOnly, heardWord}
+use Rattle.row_word.proofs.HeardLaws.{good-none, heard-agreement}
 use Rattle.row_vote.specs.Code.{votedAt, sentWord, takes, wordAgreement, sentFrame, rowAgreement, columnsLeast}
 use Rattle.row_vote.proofs.VoteLaws.{agreed-some}
 
@@ -100,7 +99,7 @@ module _
     unfolding wordAgreement
     word-is c i =
         heard-agreement mask (s .nodes) (sentWord votes sent cells c) (sentWord votes (sentFrame votes s mask faults counters cells) cells c) (λ j l. rw (sent-is j l))
-        (λ j. cellFrom faults c (faultMessageAt s j i))
+        (faultWord s mask faults (suc c) i)
 
     row-below :
         (y i : ℕ) → y ≤ row i → i < s .nodes → isGood mask i ≡ true →
@@ -128,7 +127,7 @@ module _
           omega (
             arith,
             least-of-taken (isGood mask) row (s .nodes) j (s .nodes) l g
-                (omega (arith, row-below (row j) j (omega arith) l g .0, agreement-bound (heardCounter s mask faults (λ k. getD counters (suc k) 0) j) (s .nodes))),
+                (omega (arith, row-below (row j) j (omega arith) l g .0, agreement-bound (heardWord s mask faults (λ k. getD counters (suc k) 0) 0 j) (s .nodes))),
             least-of (isGood mask) row (λ (k : ℕ). given ≤ k) (s .nodes) (s .nodes) (up .0)
                 (λ i m t. row-above given i m t (up .1 i m t) (λ c n v. down .1 c i n m (and-both t v))),
             columns-above votes s mask faults sent frame cells low (s .cells) low-all

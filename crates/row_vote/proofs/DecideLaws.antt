@@ -11,15 +11,13 @@ use Rattle.array.proofs.LeastLaws.{least-same}
 use Rattle.plan.specs.declared.Sizes.{Sizes}
 use Rattle.ballot.specs.Majority.{holders, majority, agreement}
 use Rattle.ballot.specs.Code.{Told}
-use Rattle.memory.specs.Node.{cellFrom}
-use Rattle.system.specs.Fault.{faultMessageAt}
 use Rattle.rows.specs.Code.{wordPlace}
-use Rattle.row_counter.specs.Code.{Put, isGood, goodOnly}
+use Rattle.row_counter.specs.Code.{Put}
+use Rattle.row_word.specs.Code.{faultWord, isGood, goodOnly, heardWord}
 use Rattle.row_counter.proofs.PutLaws.{put-idle, put-same}
-use Rattle.row_counter.proofs.HeardLaws.{told-word}
-use Rattle.row_counter.proofs.AgreementLaws.{least-of-each, least-of-none, least-of-decided}
-use Rattle.row_counter.proofs.DecideLaws.{decided-of}
-use Rattle.row_vote.specs.Code.{votedAt, sentWord, heardWord, takes, wordAfter, wordAgreement}
+use Rattle.row_word.proofs.HeardLaws.{told-word, decided-of}
+use Rattle.row_word.proofs.AgreementLaws.{least-of-each, least-of-none, least-of-decided}
+use Rattle.row_vote.specs.Code.{votedAt, sentWord, takes, wordAfter, wordAgreement}
 use Rattle.row_vote.proofs.HeardLaws.{word-decided, word-alone, word-read}
 
 -- what each node counts of words that were read is what it counts of what was sent
@@ -27,7 +25,7 @@ pub cell-counted :
     (votes : List Bool) (s : Sizes) (mask : ℕ) (faults : List ℕ) (sent : ℕ → ℕ) (cells : List ℕ) (c : ℕ) (words : List ℕ) →
     Told (λ j. some (sentWord votes sent cells c j)) (s .nodes) words →
     (frame : ℕ → ℕ) {cells' : List ℕ} →
-    Put (λ i. wordPlace (suc i) c) (takes votes mask frame c) (λ i. Option·getD (majority (heardWord s mask faults (λ j. getD words j 0) c i) (s .nodes)) (getD cells (wordPlace (suc i) c) 0)) (s .nodes) cells cells' →
+    Put (λ i. wordPlace (suc i) c) (takes votes mask frame c) (λ i. Option·getD (majority (heardWord s mask faults (λ j. getD words j 0) (suc c) i) (s .nodes)) (getD cells (wordPlace (suc i) c) 0)) (s .nodes) cells cells' →
     Put (λ i. wordPlace (suc i) c) (takes votes mask frame c) (wordAfter votes s mask faults sent cells c) (s .nodes) cells cells'
 cell-counted votes s mask faults sent cells c words told frame {cells'} p =
     put-same (λ i. wordPlace (suc i) c) (takes votes mask frame c) (takes votes mask frame c) _ (wordAfter votes s mask faults sent cells c) (s .nodes) cells cells' (λ j l. refl)
@@ -38,11 +36,11 @@ pub cell-least :
     (votes : List Bool) (s : Sizes) (mask : ℕ) (faults : List ℕ) (sent : ℕ → ℕ) (cells : List ℕ) (c : ℕ) (words : List ℕ) →
     Told (λ j. some (sentWord votes sent cells c j)) (s .nodes) words →
     (frame : ℕ → ℕ) (low : ℕ) {a : ℕ} →
-    a ≡ lesser low (least (takes votes mask frame c) (λ i. agreement (heardWord s mask faults (λ j. getD words j 0) c i) (s .nodes)) (s .nodes)) →
+    a ≡ lesser low (least (takes votes mask frame c) (λ i. agreement (heardWord s mask faults (λ j. getD words j 0) (suc c) i) (s .nodes)) (s .nodes)) →
     a ≡ lesser low (least (takes votes mask frame c) (wordAgreement votes s mask faults sent cells c) (s .nodes))
 unfolding wordAgreement
 cell-least votes s mask faults sent cells c words told frame low h =
-    least-of-each mask (s .nodes) low (λ i j. cellFrom faults c (faultMessageAt s j i)) (sentWord votes sent cells c) (λ j. getD words j 0)
+    least-of-each mask (s .nodes) low (faultWord s mask faults (suc c)) (sentWord votes sent cells c) (λ j. getD words j 0)
     (told-word (sentWord votes sent cells c) (s .nodes) words told) (takes votes mask frame c) h
 
 module _
@@ -67,15 +65,15 @@ module _
 
     -- what is said of the cell to receiver i
     abbrev fault-of : ℕ → ℕ → Option ℕ
-    fault-of i j = cellFrom faults c (faultMessageAt s j i)
+    fault-of = faultWord s mask faults (suc c)
 
     abbrev read-of : (j : ℕ) → j < s .nodes → word j ≡ getD words j 0
     read-of = told-word word (s .nodes) words told
 
     pub cell-each :
         (frame : ℕ → ℕ) {a : ℕ} {cells' : List ℕ} → ((i : ℕ) → i < s .nodes → votedAt votes (frame i) c ≡ true) →
-        Put place (takes votes mask frame c) (λ i. Option·getD (majority (heardWord s mask faults (λ j. getD words j 0) c i) (s .nodes)) (getD cells (place i) 0)) (s .nodes) cells cells' →
-        a ≡ lesser low (least (takes votes mask frame c) (λ i. agreement (heardWord s mask faults (λ j. getD words j 0) c i) (s .nodes)) (s .nodes)) →
+        Put place (takes votes mask frame c) (λ i. Option·getD (majority (heardWord s mask faults (λ j. getD words j 0) (suc c) i) (s .nodes)) (getD cells (place i) 0)) (s .nodes) cells cells' →
+        a ≡ lesser low (least (takes votes mask frame c) (λ i. agreement (heardWord s mask faults (λ j. getD words j 0) (suc c) i) (s .nodes)) (s .nodes)) →
         Voted a cells'
     unfolding wordAgreement
     cell-each frame {a} {cells'} f p h = (
@@ -97,7 +95,7 @@ module _
 
     pub cell-some :
         (x : ℕ) {a : ℕ} {cells' : List ℕ} → o ≡ some x → Put place (isGood mask) (λ j. x) (s .nodes) cells cells' →
-        a ≡ lesser low (least (isGood mask) (λ i. holders (heardWord s mask faults (λ j. getD words j 0) c i) (s .nodes) x) (s .nodes)) →
+        a ≡ lesser low (least (isGood mask) (λ i. holders (heardWord s mask faults (λ j. getD words j 0) (suc c) i) (s .nodes) x) (s .nodes)) →
         Voted a cells'
     unfolding wordAgreement
     cell-some x {a} {cells'} e p h = (

@@ -9,14 +9,12 @@ use lib.ListN.{getD}
 use Rattle.array.specs.Bit.{bit}
 use Rattle.plan.specs.declared.Sizes.{Sizes}
 use Rattle.ballot.specs.Majority.{majority}
-use Rattle.ballot.specs.Code.{packed, Told}
-use Rattle.ballot.proofs.BinLaws.{told-majority}
-use Rattle.memory.specs.Node.{cellFrom}
-use Rattle.system.specs.Fault.{faultMessageAt}
+use Rattle.ballot.specs.Code.{packed, Packs, Told}
+use Rattle.ballot.proofs.PackedLaws.{packs-majority}
 use Rattle.rows.specs.Code.{wordPlace}
-use Rattle.row_counter.specs.Code.{goodOnly}
-use Rattle.row_counter.proofs.HeardLaws.{told-word, heard-same, heard-decided, heard-alone}
-use Rattle.row_vote.specs.Code.{votedAt, heardWord, sentWord, takes, wordAfter}
+use Rattle.row_word.specs.Code.{faultWord, goodOnly, heardWord}
+use Rattle.row_word.proofs.HeardLaws.{told-word, heard-same, heard-decided, heard-alone}
+use Rattle.row_vote.specs.Code.{votedAt, sentWord, takes, wordAfter}
 
 module _ (s : Sizes) (mask : ℕ) (faults : List ℕ) (i : ℕ) where
   module _ (votes : List Bool) (sent : ℕ → ℕ) (cells : List ℕ) (c : ℕ) where
@@ -29,20 +27,20 @@ module _ (s : Sizes) (mask : ℕ) (faults : List ℕ) (i : ℕ) where
     pub word-decided : (x : ℕ) → majority (goodOnly mask word) (s .nodes) ≡ some x → wordAfter votes s mask faults sent cells c i ≡ x
     unfolding wordAfter
     word-decided x e =
-        ap (λ (o : Option ℕ). Option·getD o old) (heard-decided mask (s .nodes) (λ j. cellFrom faults c (faultMessageAt s j i)) word x e)
+        ap (λ (o : Option ℕ). Option·getD o old) (heard-decided mask (s .nodes) (faultWord s mask faults (suc c) i) word x e)
 
     pub word-alone : majority (goodOnly mask word) (s .nodes) ≡ none → mask ≡ 0 → wordAfter votes s mask faults sent cells c i ≡ old
     unfolding wordAfter
     word-alone e z =
-        ap (λ (o : Option ℕ). Option·getD o old) (heard-alone mask (s .nodes) (λ j. cellFrom faults c (faultMessageAt s j i)) word z ∙ e)
+        ap (λ (o : Option ℕ). Option·getD o old) (heard-alone mask (s .nodes) (faultWord s mask faults (suc c) i) word z ∙ e)
 
     pub word-read :
         (words : List ℕ) → Told (λ j. some (word j)) (s .nodes) words →
-        Option·getD (majority (heardWord s mask faults (λ j. getD words j 0) c i) (s .nodes)) old ≡ wordAfter votes s mask faults sent cells c i
+        Option·getD (majority (heardWord s mask faults (λ j. getD words j 0) (suc c) i) (s .nodes)) old ≡ wordAfter votes s mask faults sent cells c i
     unfolding wordAfter
     word-read words t =
         ap (λ (o : Option ℕ). Option·getD o old)
-        (sym (heard-same mask (s .nodes) word (λ j. getD words j 0) (told-word word (s .nodes) words t) (λ j. cellFrom faults c (faultMessageAt s j i))))
+        (sym (heard-same mask (s .nodes) word (λ j. getD words j 0) (told-word word (s .nodes) words t) (faultWord s mask faults (suc c) i)))
 
 -- what the code reads of a cell is what its node sends
 pub sent-read :
@@ -53,10 +51,11 @@ pub sent-read :
     sentWord votes sent cells c j ≡ x
 sent-read votes sent cells c j e a h = sym (h ∙ rw (e, a, add-one j))
 
--- what a receiver takes of values that it counted, where its own is as it was
-module _ (bin : ℕ → Option ℕ) (n : ℕ) (values : List ℕ) {voted : Option ℕ} {now old : ℕ} (told : Told bin n values) (counted : voted ≡ majority (packed values n) n) (still : now ≡ old) where
-  pub counted-old : {r : ℕ} → r ≡ Option·getD voted now → r ≡ Option·getD (majority bin n) old
-  counted-old e = rw (← told-majority bin n values told, ← counted, ← still) e
+-- what a receiver takes of words that it counted, where its own is as it was
+pub counted-old :
+    (bin : ℕ → Option ℕ) (n : ℕ) {values : List ℕ} {k now old r : ℕ} {voted : Option ℕ} →
+    Packs bin n values k → voted ≡ majority (packed values k) n → now ≡ old → r ≡ Option·getD voted now → r ≡ Option·getD (majority bin n) old
+counted-old bin n packs counted still e = rw (← packs-majority bin n packs, ← counted, ← still) e
 
 -- whether a node votes on a cell, by the tests that the code makes
 pub takes-if :

@@ -6,7 +6,7 @@ use Prim.Native.Nat.{ℕ, suc}
 use native.Mathlib.Omega.{arith}
 use Rattle.array.proofs.TestLaws.{split}
 use Rattle.rows.specs.Code.{wordPlace}
-use Rattle.row_counter.specs.Code.{isGood}
+use Rattle.row_word.specs.Code.{isGood}
 use Rattle.row_vote.specs.Code.{votedAt, takes}
 
 -- no two have one place

@@ -17,14 +17,14 @@ use Rattle.plan.specs.declared.Sizes.{Sizes}
 use Rattle.plan.specs.Limits.{mostNodes, mostFrames, mostCells}
 use Rattle.ballot.specs.Majority.{majority}
 use Rattle.memory.specs.declared.Memory.{Memory}
-use Rattle.memory.specs.Node.{cellFrom}
-use Rattle.system.specs.Fault.{faultMessageAt}
 use Rattle.rows.specs.Code.{wordCount, wordPlace, rowOf, memoryIn, Through}
 use Rattle.rows.proofs.RowLaws.{row-at, row-length, row-same, memory-eq}
-use Rattle.row_counter.specs.Code.{Put, frameBefore, isGood, goodOnly, agreedFrame, heardCounter, counterAfter}
+use Rattle.row_counter.specs.Code.{Put, frameBefore, agreedFrame, counterAfter}
+use Rattle.row_word.specs.Code.{faultWord, isGood, goodOnly, heardWord}
 use Rattle.row_counter.proofs.PutLaws.{put-idle}
-use Rattle.row_counter.proofs.HeardLaws.{heard-same, heard-agreement, counter-settled}
-use Rattle.row_vote.specs.Code.{votedAt, sentWord, votedBy, heardWord, takes, wordAfter, wordAgreement, sentFrame, votedRow, votedWord}
+use Rattle.row_counter.proofs.HeardLaws.{counter-settled}
+use Rattle.row_word.proofs.HeardLaws.{heard-same, heard-agreement}
+use Rattle.row_vote.specs.Code.{votedAt, sentWord, votedBy, takes, wordAfter, wordAgreement, sentFrame, votedRow, votedWord}
 
 -- ---- the frame that is agreed
 
@@ -101,13 +101,13 @@ module _ (votes : List Bool) (s : Sizes) (mask : ℕ) (faults : List ℕ) (sent 
     word-still i =
         rw (
           column-still (suc i),
-          heard-same mask (s .nodes) (sentWord votes sent now c) (sentWord votes sent cells c) (λ j k. rw (column-still (suc j))) (λ j. cellFrom faults c (faultMessageAt s j i)),
+          heard-same mask (s .nodes) (sentWord votes sent now c) (sentWord votes sent cells c) (λ j k. rw (column-still (suc j))) (faultWord s mask faults (suc c) i),
         )
 
     pub agreement-still : (i : ℕ) → wordAgreement votes s mask faults sent now c i ≡ wordAgreement votes s mask faults sent cells c i
     unfolding wordAgreement
     agreement-still i =
-        heard-agreement mask (s .nodes) (sentWord votes sent now c) (sentWord votes sent cells c) (λ j k. rw (column-still (suc j))) (λ j. cellFrom faults c (faultMessageAt s j i))
+        heard-agreement mask (s .nodes) (sentWord votes sent now c) (sentWord votes sent cells c) (λ j k. rw (column-still (suc j))) (faultWord s mask faults (suc c) i)
 
     module _ (next : List ℕ) (p : Put (λ i. wordPlace (suc i) c) (takes votes mask frame c) (wordAfter votes s mask faults sent now c) (s .nodes) now next) where
       -- a word of another column, or of no node's row
@@ -158,7 +158,7 @@ module _
     good-row :
         (i : ℕ) → i < s .nodes → bit mask i ≡ false →
         memoryIn counters' cells' (suc i)
-        ≡ votedBy votes s (heardCounter s mask faults (λ j. getD counters (suc j) 0) i) (λ c. heardWord s mask faults (sentWord votes (sentFrame votes s mask faults counters cells) cells c) c i) (row (suc i))
+        ≡ votedBy votes s (heardWord s mask faults (λ j. getD counters (suc j) 0) 0 i) (λ c. heardWord s mask faults (sentWord votes (sentFrame votes s mask faults counters cells) cells c) (suc c) i) (row (suc i))
     unfolding votedBy counterAfter wordAfter
     good-row i l t =
         memory-eq (counted .here i l (rw t))
@@ -173,7 +173,7 @@ module _
         long' = row-length cells' (suc i) (omega (arith, size'))
 
         words : ℕ → ℕ → Option ℕ
-        words c = heardWord s mask faults (sentWord votes (sentFrame votes s mask faults counters cells) cells c) c i
+        words c = heardWord s mask faults (sentWord votes (sentFrame votes s mask faults counters cells) cells c) (suc c) i
 
         after : ℕ → ℕ
         after c =
@@ -184,7 +184,7 @@ module _
         word-is : (d : ℕ) → d < mostCells → wordAfter votes s mask faults sent cells d i ≡ Option·getD (majority (words d) (s .nodes)) (getD (rowOf cells (suc i)) d 0)
         word-is d m =
             rw (
-              heard-same mask (s .nodes) (sentWord votes sent cells d) (sentWord votes (sentFrame votes s mask faults counters cells) cells d) (λ j k. rw (sent-is j k)) (λ j. cellFrom faults d (faultMessageAt s j i)),
+              heard-same mask (s .nodes) (sentWord votes sent cells d) (sentWord votes (sentFrame votes s mask faults counters cells) cells d) (λ j k. rw (sent-is j k)) (faultWord s mask faults (suc d) i),
               row-at cells (suc i) d m,
             )
 

@@ -8,13 +8,12 @@ use lib.ListN.{getD}
 use Rattle.array.specs.Index.{fill, lesser, least}
 use Rattle.array.specs.Bit.{bit}
 use Rattle.plan.specs.declared.Sizes.{Sizes}
-use Rattle.plan.specs.Known.{votePlace}
+use Rattle.plan.specs.Tables.{votePlace}
 use Rattle.ballot.specs.Majority.{majority, agreement, orOwn}
 use Rattle.memory.specs.declared.Memory.{Memory}
-use Rattle.memory.specs.Node.{cellFrom}
-use Rattle.system.specs.Fault.{faultMessageAt}
 use Rattle.rows.specs.Code.{wordPlace}
-use Rattle.row_counter.specs.Code.{frameBefore, isGood, heardOf, heardCounter, counterAfter, counterAgreement}
+use Rattle.row_word.specs.Code.{isGood, heardWord}
+use Rattle.row_counter.specs.Code.{frameBefore, counterAfter, counterAgreement}
 
 -- ---- what is told
 
@@ -42,11 +41,6 @@ votedBy votes s counters words m =
           (m .cells);
     }
 
--- what node i hears of cell c, whose words are `word`
-module _ (s : Sizes) (mask : ℕ) (faults : List ℕ) where
-  abbrev pub heardWord : (ℕ → ℕ) → ℕ → ℕ → ℕ → Option ℕ
-  heardWord word c i = heardOf mask (λ j. cellFrom faults c (faultMessageAt s j i)) word
-
 -- whether node i, who votes in frame `frame i`, votes on cell c: bad nodes do not vote
 abbrev pub takes : List Bool → ℕ → (ℕ → ℕ) → ℕ → ℕ → Bool
 takes votes mask frame c i = isGood mask i && votedAt votes (frame i) c
@@ -55,11 +49,11 @@ module _ (votes : List Bool) (s : Sizes) (mask : ℕ) (faults : List ℕ) where
   -- node i's cell c where it votes on it
   unfoldable pub wordAfter : (ℕ → ℕ) → List ℕ → ℕ → ℕ → ℕ
   wordAfter sent cells c i =
-      Option·getD (majority (heardWord s mask faults (sentWord votes sent cells c) c i) (s .nodes)) (getD cells (wordPlace (suc i) c) 0)
+      Option·getD (majority (heardWord s mask faults (sentWord votes sent cells c) (suc c) i) (s .nodes)) (getD cells (wordPlace (suc i) c) 0)
 
   -- and its agreement on it
   unfoldable pub wordAgreement : (ℕ → ℕ) → List ℕ → ℕ → ℕ → ℕ
-  wordAgreement sent cells c i = agreement (heardWord s mask faults (sentWord votes sent cells c) c i) (s .nodes)
+  wordAgreement sent cells c i = agreement (heardWord s mask faults (sentWord votes sent cells c) (suc c) i) (s .nodes)
 
   -- row q after the vote, by the rows before it
   module _ (counters cells : List ℕ) where
@@ -70,7 +64,7 @@ module _ (votes : List Bool) (s : Sizes) (mask : ℕ) (faults : List ℕ) where
     votedRow zero m = m
     votedRow (suc i) m =
         cond (bit mask i) m
-        (votedBy votes s (heardCounter s mask faults (λ j. getD counters (suc j) 0) i) (λ c. heardWord s mask faults (sentWord votes sentFrame cells c) c i) m)
+        (votedBy votes s (heardWord s mask faults (λ j. getD counters (suc j) 0) 0 i) (λ c. heardWord s mask faults (sentWord votes sentFrame cells c) (suc c) i) m)
 
     -- node i's agreement, by the rows before the vote
     unfoldable pub rowAgreement : ℕ → ℕ

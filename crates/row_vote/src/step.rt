@@ -1,5 +1,4 @@
-// The vote of all nodes on rows: the counters first, then cell by cell. What more than half sent as good nodes every receiver hears from more than half, so it
-// is decided once; where no such value exists each good receiver counts for itself, with what the bad ones told it.
+// The vote of all nodes on rows: the counters first, then cell by cell.
 ghost use mathlib.Core.Path.{_≡_};
 ghost use mathlib.Core.Bool.{true, cond};
 ghost use mathlib.Core.Option.{some, Option·getD};
@@ -12,8 +11,9 @@ ghost use Rattle.ballot.specs.Majority.{holders as holdersOf, agreement, majori
 ghost use Rattle.ballot.specs.Code.{Told};
 ghost use Rattle.faults.specs.Code.{Small, Parts};
 ghost use Rattle.rows.specs.Code.{rowCount, wordCount, wordPlace, Through};
-ghost use Rattle.row_counter.specs.Code.{Put, frameBefore, isGood};
-ghost use Rattle.row_vote.specs.Code.{votedAt, sentWord, heardWord, takes, wordAfter, wordAgreement, votedRow, rowAgreement, votedWord, columnsLeast};
+ghost use Rattle.row_counter.specs.Code.{Put, frameBefore};
+ghost use Rattle.row_word.specs.Code.{isGood, heardWord};
+ghost use Rattle.row_vote.specs.Code.{votedAt, sentWord, takes, wordAfter, wordAgreement, votedRow, rowAgreement, votedWord, columnsLeast};
 use ballot::Voted;
 use plan::Plan;
 use plan::Sizes;
@@ -65,32 +65,6 @@ fn sent_words(
     words
 }
 
-// The words of a cell as receiver i hears them.
-fn cells_heard(
-    s: Sizes,
-    mask: u64,
-    faults: &[u8],
-    i: usize,
-    c: usize,
-    words: &[u64; System::NODES],
-) -> [u64; System::NODES]
-    requires { ⌜ Small s × Parts s mask (length (now faults)) × (i < s .nodes) × (c < s .cells) ⌝ }
-    ensures { λ r. ⌜ Told (heardWord s mask (now (faults .entry)) (λ j. getD (now (words .entry)) j 0) c i) (s .nodes) r ⌝ }
-{
-    let nodes = s.nodes;
-    let mut all = [0u64; System::NODES];
-    let mut j: usize = 0;
-    while j < nodes {
-        if counts::step::is_bad(mask, j) {
-            all[j] = mailbox::step::bin_cell(faults, faults::step::message_at(s, j, i), c);
-        } else {
-            all[j] = words[j];
-        }
-        j += 1;
-    }
-    all
-}
-
 // Each good receiver that votes on the cell counts for itself; what is given is the least of `low` and their agreements.
 fn cell_each(
     voted: &[bool; Plan::VOTES],
@@ -104,7 +78,7 @@ fn cell_each(
     low: usize,
 ) -> usize
     requires { ⌜ Small s × Parts s mask (length (now faults)) × (c < s .cells) × (length (now cells) ≡ wordCount) × ((j : ℕ) → j < s .nodes → getD (now frames) j 0 < mostFrames) ⌝ }
-    ensures { λ r. ⌜ Put (λ i. wordPlace (suc i) c) (takes (now (voted .entry)) mask (λ i. getD (now (frames .entry)) i 0) c) (λ i. Option·getD (majorityOf (heardWord s mask (now (faults .entry)) (λ j. getD (now (words .entry)) j 0) c i) (s .nodes)) (getD (now (cells .entry)) (wordPlace (suc i) c) 0)) (s .nodes) (now (cells .entry)) (now (cells .exit)) × (r ≡ lesser low (least (takes (now (voted .entry)) mask (λ i. getD (now (frames .entry)) i 0) c) (λ i. agreement (heardWord s mask (now (faults .entry)) (λ j. getD (now (words .entry)) j 0) c i) (s .nodes)) (s .nodes))) ⌝ }
+    ensures { λ r. ⌜ Put (λ i. wordPlace (suc i) c) (takes (now (voted .entry)) mask (λ i. getD (now (frames .entry)) i 0) c) (λ i. Option·getD (majorityOf (heardWord s mask (now (faults .entry)) (λ j. getD (now (words .entry)) j 0) (suc c) i) (s .nodes)) (getD (now (cells .entry)) (wordPlace (suc i) c) 0)) (s .nodes) (now (cells .entry)) (now (cells .exit)) × (r ≡ lesser low (least (takes (now (voted .entry)) mask (λ i. getD (now (frames .entry)) i 0) c) (λ i. agreement (heardWord s mask (now (faults .entry)) (λ j. getD (now (words .entry)) j 0) (suc c) i) (s .nodes)) (s .nodes))) ⌝ }
 {
     let nodes = s.nodes;
     let mut agreed = low;
@@ -112,11 +86,11 @@ fn cell_each(
     while i < nodes {
         let g = frames[i];
         if !counts::step::is_bad(mask, i) & plan::step::is_voted(voted, g, c) {
-            let all = cells_heard(s, mask, faults, i, c, words);
-            let v = ballot::step::majority(&all, nodes, nodes);
+            let all = row_word::step::heard(s, mask, faults, i, c + 1, words);
+            let v = ballot::step::majority(&all.words, all.count, nodes);
             let at = rows::step::word_place(i + 1, c);
             cells[at] = ballot::step::or_old(v, cells[at]);
-            agreed = ballot::step::min(agreed, ballot::step::agreement(&all, nodes, v));
+            agreed = ballot::step::min(agreed, ballot::step::agreement(&all.words, all.count, v));
         }
         i += 1;
     }
@@ -134,26 +108,14 @@ fn cell_agreed(
     low: usize,
 ) -> usize
     requires { ⌜ Small s × (0 < s .nodes) × Parts s mask (length (now faults)) × (c < s .cells) ⌝ }
-    ensures { λ r. ⌜ r ≡ lesser low (least (isGood mask) (λ i. holdersOf (heardWord s mask (now (faults .entry)) (λ j. getD (now (words .entry)) j 0) c i) (s .nodes) x) (s .nodes)) ⌝ }
+    ensures { λ r. ⌜ r ≡ lesser low (least (isGood mask) (λ i. holdersOf (heardWord s mask (now (faults .entry)) (λ j. getD (now (words .entry)) j 0) (suc c) i) (s .nodes) x) (s .nodes)) ⌝ }
 {
     let nodes = s.nodes;
-    let held = row_counter::step::good_holders(words, nodes, mask, x);
+    let held = row_word::step::good_holders(words, nodes, mask, x);
     if mask == 0 {
         return ballot::step::min(low, held);
     }
-    let mut agreed = low;
-    let mut i: usize = 0;
-    while i < nodes {
-        if agreed <= held {
-            break;
-        }
-        if !counts::step::is_bad(mask, i) {
-            let told = cells_heard(s, mask, faults, i, c, words);
-            agreed = ballot::step::min(agreed, ballot::step::holders(&told, nodes, x));
-        }
-        i += 1;
-    }
-    agreed
+    row_word::step::agreed(s, mask, faults, c + 1, words, x, held, low)
 }
 
 fn hand_to_all(nodes: usize, mask: u64, cells: &mut [u64], c: usize, x: u64)
@@ -187,7 +149,7 @@ fn vote_cell(
 {
     let nodes = s.nodes;
     let words = sent_words(voted, nodes, sent, cells, c);
-    let Voted::Value(x) = row_counter::step::decided(&words, nodes, mask) else {
+    let Voted::Value(x) = row_word::step::decided(&words, nodes, mask) else {
         if mask != 0 {
             let frames = [one; System::NODES];
             return cell_each(voted, s, mask, faults, &frames, &words, cells, c, low);

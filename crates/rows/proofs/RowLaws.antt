@@ -7,16 +7,16 @@ use native.Mathlib.Omega.{arith}
 use native.Mathlib.Nat.{not-suc-le-zero}
 use native.Mathlib.Numerals.{add-one}
 use lib.Dec.{eqb, ltb}
-use lib.ListN.{length, getD, set, take, drop, length-take, length-drop, replicate, length-replicate}
+use lib.ListN.{length, getD, set, take, drop, length-take, length-drop}
 use lib.Seq.{ext-getD, getD-take, getD-drop, getD-set-same, getD-set-other, length-take-le, take-at, drop-at}
 use borrow.Author.Tests.{eq-eqb, ne-eqb, eqb-true, eqb-false, ltb-true, ltb-false}
 use borrow.Rule.Slice.PartMut.{putMid, same-len-mid}
 use Rattle.array.specs.Index.{howMany, allBelow, fill}
-use Rattle.array.specs.Place.{placed}
+use Rattle.array.specs.Code.{placed}
 use Rattle.array.proofs.TestLaws.{split, and-false-right, and-both}
 use Rattle.array.proofs.IndexLaws.{allBelow-more, allBelow-fails, howMany-same}
 use Rattle.array.proofs.LoopLaws.{all-passed}
-use Rattle.array.proofs.PlacesLaws.{fill-length, fill-in, fill-same}
+use Rattle.array.proofs.PlacesLaws.{fill-length, fill-in}
 use Rattle.array.proofs.PlacedLaws.{placed-before, placed-after, part-back}
 use Rattle.plan.specs.declared.Plan.{Plan}
 use Rattle.plan.specs.Limits.{mostNodes, mostCells}
@@ -25,7 +25,8 @@ use Rattle.memory.specs.declared.Memory.{Memory}
 use Rattle.memory.specs.Node.{zeroMemory, computed}
 use Rattle.memory.proofs.StepLaws.{computed-is}
 use Rattle.system.specs.declared.System.{System}
-use Rattle.system.specs.Frame.{memoryOf, sameMemory}
+use Rattle.system.specs.Frame.{memoryOf}
+use Rattle.system.specs.CountCalls.{sameMemory}
 use Rattle.rows.specs.Code.{rowOf, memoryIn, Rows, Stored, Through, sameRow}
 
 -- ---- a row by its words
@@ -47,17 +48,10 @@ row-same a b r e h =
     ext-getD 0 (rowOf a r) (rowOf b r) (row-long a r ∙ rw e (sym (row-long b r)))
     (λ d l. let m : d < mostCells = omega (arith, row-long a r) in row-at a r d m ∙ h d m ∙ sym (row-at b r d m))
 
--- the words of a row copied one by one
-pub fill-copied : (v l : List ℕ) (n : ℕ) → length v ≡ n → length l ≡ n → fill (λ i. getD v i 0) n l ≡ v
-fill-copied v l n e f =
-    let long : length (fill (λ i. getD v i 0) n l) ≡ n = fill-length (λ i. getD v i 0) n l ∙ f in
-    ext-getD 0 (fill (λ i. getD v i 0) n l) v (long ∙ sym e)
-    (λ i h. fill-in (λ i. getD v i 0) n l i 0 (omega arith) (omega arith))
-
-pub row-copied : (cells : List ℕ) (r : ℕ) {a : ℕ} → a ≡ mostCells * r → mostCells * r + mostCells ≤ length cells → fill (λ i. getD cells (a + i) 0) mostCells (replicate mostCells 0) ≡ rowOf cells r
-row-copied cells r {a} e l =
-    fill-same (λ i. getD cells (a + i) 0) (λ i. getD (rowOf cells r) i 0) mostCells (replicate mostCells 0) (λ i h. rw e (sym (row-at cells r i h)))
-    ∙ fill-copied (rowOf cells r) (replicate mostCells 0) mostCells (row-length cells r l) (length-replicate {A = ℕ} mostCells 0)
+-- as a part of the words
+pub row-part : (cells : List ℕ) (r : ℕ) → take (mostCells * r + mostCells - mostCells * r) (drop (mostCells * r) cells) ≡ rowOf cells r
+unfolding rowOf
+row-part cells r = let e : mostCells * r + mostCells - mostCells * r ≡ mostCells = omega arith in rw e
 
 -- a word of a row and one of the single controller's
 module _ (cells : List ℕ) (r c : ℕ) {a : ℕ} (at : a ≡ mostCells * r) (l : c < mostCells) where

@@ -4,7 +4,7 @@ ghost use Prim.Native.Nat.{_+_, _<_, _≤_};
 ghost use lib.ListN.{length};
 ghost use Rattle.array.specs.Index.{howMany};
 ghost use Rattle.plan.specs.Limits.{mostNodes, mostCells};
-ghost use Rattle.rows.specs.Code.{rowCount, wordCount, wordPlace, rowOf, memoryIn, Rows, Stored, sameRow};
+ghost use Rattle.rows.specs.Code.{rowCount, wordCount, wordPlace, memoryIn, Rows, Stored, sameRow};
 use memory::Memory;
 use plan::Plan;
 use system::System;
@@ -25,17 +25,6 @@ pub fn word_place(r: usize, c: usize) -> usize
 
 // ---- from a record to rows, and back
 
-pub fn put_row(row: &mut [u64], values: [u64; Plan::CELLS])
-    requires { ⌜ length (now row) ≡ mostCells ⌝ }
-    ensures { λ _. ⌜ now (row .exit) ≡ values ⌝ }
-{
-    let mut c: usize = 0;
-    while c < Plan::CELLS {
-        row[c] = values[c];
-        c += 1;
-    }
-}
-
 pub fn put_memory(m: Memory, r: usize, counters: &mut [u16], cells: &mut [u64])
     requires { ⌜ (length (now counters) ≡ rowCount) × (length (now cells) ≡ wordCount) × (r < rowCount) ⌝ }
     ensures { λ _. ⌜ Stored (now (counters .entry)) (now (cells .entry)) r m (now (counters .exit)) (now (cells .exit)) ⌝ }
@@ -43,7 +32,7 @@ pub fn put_memory(m: Memory, r: usize, counters: &mut [u16], cells: &mut [u64])
     let at = Plan::CELLS * r;
     let values = m.cells;
     counters[r] = m.counter;
-    put_row(&mut cells[at..at + Plan::CELLS], values);
+    array::step::copy(&values, &mut cells[at..at + Plan::CELLS]);
 }
 
 pub fn unpack(system: System, counters: &mut [u16], cells: &mut [u64])
@@ -58,25 +47,13 @@ pub fn unpack(system: System, counters: &mut [u16], cells: &mut [u64])
     }
 }
 
-fn row(r: usize, cells: &[u64]) -> [u64; Plan::CELLS]
-    requires { ⌜ (length (now cells) ≡ wordCount) × (r < rowCount) ⌝ }
-    ensures { λ v. ⌜ v ≡ rowOf (now (cells .entry)) r ⌝ }
-{
-    let at = Plan::CELLS * r;
-    let mut values = [0u64; Plan::CELLS];
-    let mut c: usize = 0;
-    while c < Plan::CELLS {
-        values[c] = cells[at + c];
-        c += 1;
-    }
-    values
-}
-
 pub fn memory(r: usize, counters: &[u16], cells: &[u64]) -> Memory
     requires { ⌜ (length (now counters) ≡ rowCount) × (length (now cells) ≡ wordCount) × (r < rowCount) ⌝ }
     ensures { λ m. ⌜ m ≡ memoryIn (now (counters .entry)) (now (cells .entry)) r ⌝ }
 {
-    let values = row(r, cells);
+    let at = Plan::CELLS * r;
+    let mut values = [0u64; Plan::CELLS];
+    array::step::copy(&cells[at..at + Plan::CELLS], &mut values);
     Memory {
         counter: counters[r],
         cells: values,

@@ -1,5 +1,5 @@
 // The run program: reads plan.txt and run.txt, and prints the listing. It moves bytes; what is printed, what is refused and when the listing ends is
-// decided in `lines` and `listing`.
+// decided in `lines` and `listing_start`.
 ghost use mathlib.Core.Path.{_≡_};
 ghost use mathlib.Core.Bool.{true, _&&_};
 ghost use Prim.Native.Nat.{_+_, _*_, _≤_};
@@ -27,12 +27,9 @@ const INPUT: usize = lines::step::BLOCK * 329;
 
 const OUTPUT: usize = lines::step::BLOCK * 181 + run_line::step::REFUSAL;
 
-// More than the longest plan text, so that a longer file is seen to be too long.
-const TEXT: usize = plan_line::Line::TEXT + 1;
-
 fn print_refusal(answer: Answer) {
     let mut line = [0u8; run_line::step::REFUSAL];
-    listing::refusal(answer, &mut line);
+    listing_start::refusal(answer, &mut line);
     io::write_all(STDOUT_FILENO, &line);
 }
 
@@ -129,23 +126,10 @@ fn follow(file: i32, start: Run)
     }
 }
 
-// A file that cannot be opened counts as empty.
-fn read_plan(text: &mut [u8]) -> usize
-    ensures { λ r. ⌜ r ≤ length (now (text .exit)) ⌝ }
-{
-    let file = os::open_read(b"plan.txt");
-    if file < 0 {
-        return 0;
-    }
-    let n = io::read_full(file, text);
-    libc::close(file);
-    n
-}
-
 fn main() {
-    let mut text = [0u8; TEXT];
-    let n = read_plan(&mut text);
-    let start = listing::start(&text[0..n]);
+    let mut text = [0u8; plan_file::TEXT];
+    let n = plan_file::read(&mut text);
+    let start = listing_start::start(&text[0..n]);
     let answer = start.answer;
     if answer.number() != 0 {
         print_refusal(answer);

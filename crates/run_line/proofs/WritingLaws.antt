@@ -6,7 +6,6 @@ use native.Mathlib.Omega.{arith}
 use native.Mathlib.Numerals.{add-one}
 use lib.ListN.{length, getD, set, take, drop, replicate, length-append, length-set, drop-of-length-le}
 use lib.Seq.{getD-take, set-split, length-take-le}
-use borrow.Rule.Slice.PartMut.{putMid}
 use Rattle.array.specs.Index.{joined}
 use Rattle.array.proofs.PlacesLaws.{joined-same, joined-more}
 use Rattle.answer.specs.declared.Answer.{Answer}
@@ -15,23 +14,13 @@ use Rattle.column.specs.Column.{column}
 use Rattle.column.specs.Row.{row}
 use Rattle.column.proofs.ColumnLaws.{column-length}
 use Rattle.column.proofs.RowLaws.{total, row-length}
-use Rattle.array.specs.Place.{placed}
+use Rattle.array.specs.Code.{placed}
 use Rattle.array.proofs.PlacedLaws.{placed-none, placed-length, placed-next}
-use Rattle.column.proofs.BufferLaws.{laid-none, lay}
 use Rattle.plan.specs.declared.Plan.{Plan}
 use Rattle.memory.specs.declared.Memory.{Memory}
 use Rattle.system.specs.declared.System.{System}
 use Rattle.run_line.specs.Listing.{systemNext, planeValues, agreement, working, singleAfter, equal, frameLine}
 use Rattle.run_line.specs.Line.{patternWidth, planeValuesAt, agreementAt, agreementWidth, printedWidths, printedSize, refusalLine, refusalSize}
-
--- ---- a column at a place
-
-pub put-placed :
-    (s ys : List ℕ) (at w v : ℕ) →
-    at + w ≤ length s →
-    ys ≡ column (length (take (at + w - at) (drop at s))) v →
-    putMid at (at + w - at) s ys ≡ placed s at (column w v)
-put-placed s ys at w v l e = lay (laid-none s at) ys at (at + w) w v (omega arith) refl l e .holds
 
 -- ---- the plane values
 

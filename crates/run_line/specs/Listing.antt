@@ -21,7 +21,8 @@ use Rattle.system.specs.declared.System.{System}
 use Rattle.system.specs.System.{powerOn}
 use Rattle.system.specs.Fault.{faultsSize}
 use Rattle.system.specs.Counts.{isWorking}
-use Rattle.system.specs.Frame.{memoryOf, systemAfter, placeAfter, frameAgreement, sameMemory}
+use Rattle.system.specs.Frame.{memoryOf, systemAfter, placeAfter, frameAgreement}
+use Rattle.system.specs.CountCalls.{sameMemory}
 use Rattle.run_line.specs.Line.{runLineSize, maskIn, fillIn, patternsIn, runNumbers, printedWidths, refusalLine}
 
 -- "10: .. or line 100,001"

@@ -7,7 +7,7 @@ ghost use Prim.Native.Nat.{_+_, _*_, _≤_};
 ghost use lib.Dec.{ltb};
 ghost use lib.ListN.{length, replicate, getD, take};
 ghost use Rattle.array.specs.Index.{joined};
-ghost use Rattle.array.specs.Place.{placed};
+ghost use Rattle.array.specs.Code.{placed};
 ghost use Rattle.column.specs.Column.{column};
 ghost use Rattle.column.specs.Row.{row, numbersFrom};
 ghost use Rattle.plan.specs.Limits.{mostNodes, mostSensors, mostActuators};
@@ -140,14 +140,6 @@ pub fn line_size(sensors: usize) -> usize
 
 // ---- a line of the listing
 
-// Fills the column of a width at a place.
-pub fn put(out: &mut [u8], at: usize, width: usize, v: u64)
-    requires { ⌜ (at + width ≤ length (now out)) × (width ≤ patternWidth) × (at ≤ printedSize mostActuators) ⌝ }
-    ensures { λ _. ⌜ now (out .exit) ≡ placed (now (out .entry)) at (column width v) ⌝ }
-{
-    column::write(&mut out[at..at + width], v);
-}
-
 // The plane values, the agreement, and the line feed.
 fn put_values(out: &mut [u8], values: &[u64; Plan::ACTUATORS], count: usize, agreement: usize)
     requires { ⌜ (count ≤ mostActuators) × (printedSize count ≤ length (now out)) ⌝ }
@@ -155,11 +147,11 @@ fn put_values(out: &mut [u8], values: &[u64; Plan::ACTUATORS], count: usize, agr
 {
     let mut a: usize = 0;
     while a < count {
-        put(out, EQUAL + PATTERN * a, PATTERN, values[a]);
+        column_write::step::put(out, EQUAL + PATTERN * a, PATTERN, values[a]);
         a += 1;
     }
     let at = EQUAL + PATTERN * count;
-    put(out, at, COUNT, agreement as u64);
+    column_write::step::put(out, at, COUNT, agreement as u64);
     out[at + COUNT] = b'\n';
 }
 
@@ -176,9 +168,9 @@ pub fn write_frame(
     requires { ⌜ (count ≤ mostActuators) × (length (now out) ≡ printedSize count) × (count ≤ length (now values)) ⌝ }
     ensures { λ _. ⌜ now (out .exit) ≡ row (printedWidths count) (frame ∷ working ∷ equal ∷ (take count (now (values .entry)) ++ (agreement ∷ []))) ⌝ }
 {
-    put(out, 0, FRAME, frame as u64);
-    put(out, FRAME, COUNT, working as u64);
-    put(out, WORKING, COUNT, equal as u64);
+    column_write::step::put(out, 0, FRAME, frame as u64);
+    column_write::step::put(out, FRAME, COUNT, working as u64);
+    column_write::step::put(out, WORKING, COUNT, equal as u64);
     put_values(out, values, count, agreement);
 }
 
@@ -187,8 +179,8 @@ pub fn write_refusal(out: &mut [u8], answer: Answer)
     requires { ⌜ refusalSize ≤ length (now out) ⌝ }
     ensures { λ _. ⌜ now (out .exit) ≡ placed (now (out .entry)) 0 (refusalLine answer) ⌝ }
 {
-    put(out, 0, NUMBER, answer.number() as u64);
-    put(out, NUMBER, LINE_NUMBER, answer.line() as u64);
+    column_write::step::put(out, 0, NUMBER, answer.number() as u64);
+    column_write::step::put(out, NUMBER, LINE_NUMBER, answer.line() as u64);
     out[LINE] = b'\n';
 }
 

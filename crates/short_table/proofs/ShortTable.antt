@@ -7,7 +7,8 @@ use Rattle.pattern.specs.Pattern.{sumOf, limitOf}
 use Rattle.numeral.specs.Numeral.{decimal, isNumeral, numeralOf}
 use Rattle.column.specs.Column.{dropBlanks, numberShown, mark, front, column}
 use Rattle.column.specs.Row.{row, numbersFrom, numbersShown}
-use Rattle.plan.specs.Known.{votedIn, reads, readsKnown, knowTask, knowTasks, knowVoted, knowFrame, known, allKnown, periodTo, period}
+use Rattle.plan.specs.Known.{reads, readsKnown, knowTask, knowTasks, knowVoted, knowFrame, known, allKnown, periodTo, period}
+use Rattle.plan.specs.Tables.{votedIn}
 use Rattle.plan.specs.Accepted.{headerOk, constantsOk, opOk, taskOk}
 use Rattle.plan_grammar.specs.Line.{numbersAt, lineAt, isTask}
 use Rattle.plan_grammar.specs.Written.{written}

@@ -12,7 +12,8 @@ use Rattle.pattern.specs.Pattern.{valueOf}
 use Rattle.plan.specs.declared.Op.the-variants.{Take, Sum, Limit}
 use Rattle.plan.specs.declared.Plan.{Plan}
 use Rattle.plan.specs.Limits.{mostFrames, mostCells, mostTasks, mostActuators}
-use Rattle.plan.specs.Known.{unusedTask, votePlace, period}
+use Rattle.plan.specs.Known.{period}
+use Rattle.plan.specs.Tables.{unusedTask, votePlace}
 use Rattle.plan_grammar.specs.Written.{written}
 use Rattle.plan_text.specs.Answers.{readAnswer}
 use Rattle.task.specs.Task.{opValue}

@@ -7,7 +7,7 @@ use native.Mathlib.Omega.{arith}
 use borrow.Author.Tests.{not-true}
 use Rattle.array.proofs.TestLaws.{and-left}
 use Rattle.array.proofs.IndexLaws.{howMany-some}
-use Rattle.array.proofs.LeastLaws.{least-of-some}
+use Rattle.array.proofs.LeastLaws.{lesser-first, least-of-taken, least-of-some}
 use Rattle.answer.specs.Tests.{passed, ifPassed}
 use Rattle.plan.specs.declared.Plan.{Plan}
 use Rattle.plan.specs.Known.{period}
@@ -15,7 +15,8 @@ use Rattle.memory.specs.Node.{poweredOn}
 use Rattle.system.specs.declared.System.{System}
 use Rattle.system.specs.Fault.{bad}
 use Rattle.system.specs.Counts.{isWorking}
-use Rattle.system.specs.Frame.{agreementBy, frameAgreement, frameTests, frameAnswer}
+use Rattle.system.specs.Frame.{agreementBy, frameAgreement}
+use Rattle.system.specs.FrameCall.{frameTests, frameAnswer}
 use Rattle.system.specs.Demand.{Call, singleFinally, masks, MostGood, Premise, OnePlan}
 use Rattle.system.specs.Agreement.{recordBefore, workingIn, Agreement}
 use Rattle.system.proofs.CountLaws.{counts-ok}
@@ -40,6 +41,13 @@ module _ (p : Plan) (sys : System) (sensors : List ℕ) (mask : ℕ) (faults : L
       n ≤ frameAgreement p sys sensors mask faults
   unfolding frameAgreement
   frame-least n j l g h = least-of-some _ _ (λ (k : ℕ). n ≤ k) (p .nodes) j l (ap not g) (λ i k t. h i k (not-true (bad mask i) t))
+
+  -- and it is above no good node's, working or not
+  pub frame-most : (i : ℕ) → i < p .nodes → bad mask i ≡ false → frameAgreement p sys sensors mask faults ≤ agreementBy p sys sensors mask faults i
+  unfolding frameAgreement
+  frame-most i l g =
+      let own : ℕ = agreementBy p sys sensors mask faults i in
+      rw (least-of-taken (λ k. not (bad mask k)) (agreementBy p sys sensors mask faults) (p .nodes) i own l (ap not g) (omega arith)) (lesser-first own _)
 
 pub agreement-holds : Agreement
 unfolding OnePlan Premise isWorking frameAnswer ifPassed

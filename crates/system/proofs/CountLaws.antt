@@ -17,7 +17,8 @@ use Rattle.system.specs.declared.System.{System}
 use Rattle.system.specs.System.{zeroSystem, powerOn}
 use Rattle.system.specs.Fault.{bad}
 use Rattle.system.specs.Counts.{countAfter, goodAfter, goodCount}
-use Rattle.system.specs.Frame.{goodOf, systemAfter, countsOk}
+use Rattle.system.specs.Frame.{goodOf, systemAfter}
+use Rattle.system.specs.FrameCall.{countsOk}
 use Rattle.system.specs.Demand.{goodIn}
 
 -- ---- the good count that masks give

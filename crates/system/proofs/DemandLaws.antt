@@ -3,10 +3,14 @@ use mathlib.Core.Path.{_≡_, refl, sym, ap, ap₂, _∙_}
 use mathlib.Core.Bool.{Bool, true, false, cond, and-true}
 use mathlib.Core.List.{List, [], _∷_, _++_, append-assoc}
 use mathlib.Core.Logic.{_⊎_, ⊎-elim}
-use Prim.Native.Nat.{ℕ, _%_, _<_}
+use Prim.Native.Nat.{ℕ, _%_, _^_, _<_}
 use native.Mathlib.Nat.{zero-mod, mod-lt}
+use lib.Dec.{eqb}
 use lib.ListN.{length}
-use Rattle.array.proofs.TestLaws.{split, clash, and-left}
+use borrow.Author.Tests.{ltb-true, eqb-true}
+use Rattle.array.specs.Index.{allIn}
+use Rattle.array.proofs.TestLaws.{split, clash, and-left, and-right}
+use Rattle.array.proofs.BitLaws.{bit-none}
 use Rattle.answer.specs.declared.Answer.{Answer}
 use Rattle.answer.specs.declared.Answer.the-variants.{InvalidPlan, WrongLength, MaskOrCount}
 use Rattle.answer.specs.Refusal.{numberOf}
@@ -23,7 +27,9 @@ use Rattle.system.specs.declared.System.{System}
 use Rattle.system.specs.System.{powerOn}
 use Rattle.system.specs.Fault.{bad}
 use Rattle.system.specs.Counts.{goodCount}
-use Rattle.system.specs.Frame.{memoryOf, goodOf, systemAfter, maskOk, countsOk, frameTests, frameAnswer, framePlace, singlePlace}
+use Rattle.system.specs.Frame.{memoryOf, goodOf, systemAfter}
+use Rattle.system.specs.Single.{singlePlace}
+use Rattle.system.specs.FrameCall.{maskOk, countsOk, frameTests, frameAnswer, framePlace}
 use Rattle.system.specs.Demand.{Call, callLengths, callTests, callAnswer, isFrame, next, answers, places, finally, singleNext, singlePlaces, singleFinally, callAnswers, masks, goodIn, MostGood, Premise, OnePlan, Demand3}
 use Rattle.system.proofs.CountLaws.{Counts, counts-start, counts-ok, counts-after}
 use Rattle.system.proofs.StateLaws.{State, state-start, state-whole, state-after, counter-after, place-after, Trusted, state-trusted}
@@ -274,3 +280,18 @@ half-recovered p accept earlier later one most i l mask past e fault good some =
     first =
         single-counter p (shape-of-accepted p accept .frames-pos) earlier (one-left p earlier later one) (poweredOn p) []
         (poweredOn-counter p ∙ sym (zero-mod (p .frames)))
+
+-- ---- masks
+
+-- where all masks are 0, every node is good
+pub zero-good : (i : ℕ) (l : List ℕ) → allIn (λ mask. eqb mask 0) l ≡ true → goodIn i l ≡ true
+unfolding goodIn allIn
+zero-good i [] h = refl
+zero-good i (mask ∷ l) h =
+    let z : mask ≡ 0 = eqb-true mask 0 (and-left (eqb mask 0) (allIn (λ m. eqb m 0) l) h) in
+    rw (z, bit-none i) (zero-good i l (and-right (eqb mask 0) _ h))
+
+-- a frame's mask names nodes of the plan alone
+pub mask-below : (p : Plan) (c : Call) → (c .plan ≡ p) ⊎ (accepted (c .plan) ≡ false) → isFrame c ≡ true → c .mask < 2 ^ p .nodes
+unfolding passed isFrame callTests maskOk
+mask-below p c plan e = rw (frame-is c plan e) at (ltb-true (c .mask) (2 ^ c .plan .nodes) (and-left _ _ (and-right (accepted (c .plan)) _ e)))

@@ -7,5 +7,3 @@ pub mod FrameLaws
 pub mod StateLaws
 pub mod DemandLaws
 pub mod AgreementLaws
-pub mod AtMostTwoLaws
-pub mod NotEmpty

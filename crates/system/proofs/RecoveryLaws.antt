@@ -11,7 +11,8 @@ use Rattle.plan.specs.declared.Op.{Op}
 use Rattle.plan.specs.declared.Op.the-variants.{Wind}
 use Rattle.plan.specs.declared.Task.{Task}
 use Rattle.plan.specs.declared.Plan.{Plan}
-use Rattle.plan.specs.Known.{taskAt, votedIn, reads, readsKnown, knowTask, knowTasks, knowVoted, knowFrame, noneKnown, known, allKnown, periodTo, period}
+use Rattle.plan.specs.Known.{reads, readsKnown, knowTask, knowTasks, knowVoted, knowFrame, noneKnown, known, allKnown, periodTo, period}
+use Rattle.plan.specs.Tables.{taskAt, votedIn}
 
 -- equal but for the constants of a Wind
 pub data SameOp : Op → Op → Type 0 where

@@ -25,7 +25,8 @@ use Rattle.system.specs.declared.System.{System}
 use Rattle.system.specs.System.{zeroSystem, powerOn}
 use Rattle.system.specs.Fault.{bad}
 use Rattle.system.specs.Counts.{isWorking, goodCount}
-use Rattle.system.specs.Frame.{memoryOf, goodOf, memoryAfter, systemAfter, placeAfter, agreementBy, singlePlace}
+use Rattle.system.specs.Frame.{memoryOf, goodOf, memoryAfter, systemAfter, placeAfter, agreementBy}
+use Rattle.system.specs.Single.{singlePlace}
 use Rattle.system.specs.Demand.{goodIn, MostGood}
 use Rattle.system.proofs.RecoveryLaws.{SameRecovery, period-same}
 use Rattle.system.proofs.CountLaws.{count-least, count-since, Counts, counts-start, count-after, counts-after}

@@ -12,7 +12,8 @@ use Rattle.system.specs.declared.System.{System}
 use Rattle.system.specs.System.{powerOn}
 use Rattle.system.specs.Fault.{bad}
 use Rattle.system.specs.Counts.{isWorking}
-use Rattle.system.specs.Frame.{agreementBy, frameAnswer}
+use Rattle.system.specs.Frame.{agreementBy}
+use Rattle.system.specs.FrameCall.{frameAnswer}
 use Rattle.system.specs.Demand.{Call, isFrame, next, finally, Premise, OnePlan}
 
 -- the agreement that each call of a list gives

@@ -16,7 +16,9 @@ use Rattle.memory.specs.Node.{poweredOn, computed}
 use Rattle.system.specs.declared.System.{System}
 use Rattle.system.specs.System.{powerOn}
 use Rattle.system.specs.Fault.{bad}
-use Rattle.system.specs.Frame.{memoryOf, maskOk, lengthsOk, frameAnswer, framePlace, singlePlace}
+use Rattle.system.specs.Frame.{memoryOf}
+use Rattle.system.specs.Single.{singlePlace}
+use Rattle.system.specs.FrameCall.{maskOk, lengthsOk, frameAnswer, framePlace}
 
 -- a frame call: "each with sensors, mask, fault bytes and place of its own", and a plan record of its own
 pub record Call : Type 0 where

@@ -2,6 +2,8 @@ pub mod System
 pub mod Fault
 pub mod Counts
 pub mod Frame
+pub mod FrameCall
+pub mod Single
+pub mod CountCalls
 pub mod Demand
 pub mod Agreement
-pub mod AtMostTwo

@@ -9,9 +9,9 @@ use lib.ListN.{length, getD, set, take, drop, length-append, replicate, length-r
 use lib.Seq.{ext-getD, drop-length, take-add, take-length}
 use borrow.Author.Tests.{eqb-true, eq-eqb, ne-eqb}
 use Rattle.array.specs.Index.{fill, joined}
-use Rattle.array.specs.Place.{placed}
+use Rattle.array.specs.Code.{placed}
 use Rattle.array.proofs.TestLaws.{and-left, and-right}
-use Rattle.array.proofs.PlacesLaws.{fill-length, fill-in, joined-more, joined-same, joined-length, joined-holds, holds-entry}
+use Rattle.array.proofs.PlacesLaws.{fill-length, fill-in, joined-more, joined-same, joined-length, joined-holds, holds-entry, fill-copied}
 use Rattle.array.proofs.PlacedLaws.{placed-none, placed-next}
 use Rattle.array.proofs.LoopLaws.{stored-next}
 use Rattle.answer.specs.declared.Answer.{Answer}
@@ -36,7 +36,6 @@ use Rattle.system.specs.declared.System.{System}
 use Rattle.memory.specs.Node.{zeroMemory}
 use Rattle.system.specs.System.{zeroSystem}
 use Rattle.system.specs.Frame.{memoryOf}
-use Rattle.rows.proofs.RowLaws.{fill-copied}
 use Rattle.system_words.specs.Words.{codeOf, patternCount, rowsOk, nodeOfWords, systemOfWords, countersOf, patternsOf, countsAlone}
 
 -- ---- answers
@@ -165,7 +164,7 @@ module _ (counters cells good : List ℕ) where
   counters-back e =
       joined-same (λ j. memoryOf sys j .counter ∷ []) (λ j. getD counters j 0 ∷ []) mostNodes (λ j l. ap (λ (m : Memory). m .counter ∷ []) (node-made j l))
       ∙ sym (filled-joined (λ j. getD counters j 0) mostNodes counters e)
-      ∙ fill-copied counters counters mostNodes e e
+      ∙ fill-copied 0 counters counters mostNodes e e
 
   rows-joined : (n : ℕ) → joined (λ j. take mostCells (drop (mostCells * j) cells)) n ≡ take (mostCells * n) cells
   unfolding joined

@@ -3,7 +3,7 @@ ghost use mathlib.Core.Path.{_≡_};
 ghost use mathlib.Core.Bool.{true};
 ghost use Prim.Native.Nat.{_*_, _<_};
 ghost use lib.ListN.{length, set};
-ghost use Rattle.array.specs.Place.{placed};
+ghost use Rattle.array.specs.Code.{placed};
 ghost use Rattle.plan.specs.Limits.{mostNodes, mostCells};
 ghost use Rattle.system_words.specs.Words.{codeOf, memoryOfWords, patternCount, rowsOk, nodeOfWords, systemOfWords, countersOf, patternsOf, countsAlone};
 use answer::Answer;
@@ -22,24 +22,12 @@ pub fn code(answer: Answer) -> u64
 
 // ---- a memory
 
-fn patterns(cells: &[u64]) -> [u64; Plan::CELLS]
-    requires { ⌜ length (now cells) ≡ mostCells ⌝ }
-    ensures { λ r. ⌜ r ≡ now (cells .entry) ⌝ }
-{
-    let mut values = [0u64; Plan::CELLS];
-    let mut c: usize = 0;
-    while c < Plan::CELLS {
-        values[c] = cells[c];
-        c += 1;
-    }
-    values
-}
-
 pub fn memory(counter: u16, cells: &[u64]) -> Memory
     requires { ⌜ length (now cells) ≡ mostCells ⌝ }
     ensures { λ r. ⌜ r ≡ memoryOfWords counter (now (cells .entry)) ⌝ }
 {
-    let values = patterns(cells);
+    let mut values = [0u64; Plan::CELLS];
+    array::step::copy(cells, &mut values);
     Memory {
         counter,
         cells: values,
@@ -52,7 +40,7 @@ pub fn put_memory(memory: Memory, counter: &mut u16, cells: &mut [u64])
 {
     let values = memory.cells;
     *counter = memory.counter;
-    rows::step::put_row(cells, values);
+    array::step::copy(&values, cells);
 }
 
 // ---- a system
@@ -123,7 +111,7 @@ fn put_node(m: Memory, j: usize, counters: &mut [u16], cells: &mut [u64])
     let at = Plan::CELLS * j;
     let values = m.cells;
     counters[j] = m.counter;
-    rows::step::put_row(&mut cells[at..at + Plan::CELLS], values);
+    array::step::copy(&values, &mut cells[at..at + Plan::CELLS]);
 }
 
 fn put_memories(system: System, counters: &mut [u16], cells: &mut [u64])

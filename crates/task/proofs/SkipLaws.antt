@@ -8,7 +8,7 @@ use lib.Dec.{eqb}
 use borrow.Author.Tests.{eqb-true}
 use Rattle.array.proofs.TestLaws.{split}
 use Rattle.plan.specs.declared.Plan.{Plan}
-use Rattle.plan.specs.Known.{taskAt}
+use Rattle.plan.specs.Tables.{taskAt}
 use Rattle.plan.proofs.AcceptedLaws.{Shape}
 
 -- none of the first n tasks is of frame g

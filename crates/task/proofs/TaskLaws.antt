@@ -12,7 +12,7 @@ use lib.Seq.{getD-set-same, getD-set-other, set-out}
 use borrow.Author.Tests.{ltb-true, ltb-false, eqb-true, eqb-false, eq-eqb, ne-eqb}
 use Rattle.array.proofs.IndexLaws.{allIn-at}
 use Rattle.array.proofs.TestLaws.{split, clash, and-left, and-right}
-use Rattle.pattern.specs.Constant.{finite, finiteUnsigned, Within}
+use Rattle.pattern.specs.Constant.{isFinite, finiteUnsigned, Within}
 use Rattle.pattern.proofs.PatternLaws.{sum-bound, diff-bound, scale-bound, limit-bound, wind-bound}
 use Rattle.pattern.proofs.BoundLaws.{limit-within, wind-within}
 use Rattle.cam.specs.Cam.{floatZero}
@@ -21,7 +21,8 @@ use Rattle.plan.specs.declared.Op.{Op}
 use Rattle.plan.specs.declared.Op.the-variants.{Take, Sum, Diff, Scale, Limit, Wind, Cam}
 use Rattle.plan.specs.declared.Task.{Task}
 use Rattle.plan.specs.declared.Plan.{Plan}
-use Rattle.plan.specs.Known.{taskAt, reads, readsKnown, knowTask, knowTasks}
+use Rattle.plan.specs.Known.{reads, readsKnown, knowTask, knowTasks}
+use Rattle.plan.specs.Tables.{taskAt}
 use Rattle.plan.specs.Accepted.{opOk, constantsOk, opStorable}
 use Rattle.plan.proofs.AcceptedLaws.{Shape}
 use Rattle.task.specs.Task.{opValue, runTask, runTasks}
@@ -207,8 +208,8 @@ opValue-within n m (Limit a low high) t sensors cells k f =
     limit-within _ low high
     (holds (fits binary64 low) (search joint))
     (holds (fits binary64 high) (search joint))
-    (holds (finite low) (search joint))
-    (holds (finite high) (search joint))
+    (holds (isFinite low) (search joint))
+    (holds (isFinite high) (search joint))
     (holds (le low high) (search joint))
 opValue-within n m (Wind a law) t sensors cells k f =
     wind-within _ _ law (holds (fits binary64 (law .cap)) (search joint)) (holds (finiteUnsigned (law .cap)) (search joint))

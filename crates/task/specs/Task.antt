@@ -10,7 +10,7 @@ use Rattle.plan.specs.declared.Op.{Op}
 use Rattle.plan.specs.declared.Op.the-variants.{Take, Sum, Diff, Scale, Limit, Wind, Cam}
 use Rattle.plan.specs.declared.Task.{Task}
 use Rattle.plan.specs.declared.Plan.{Plan}
-use Rattle.plan.specs.Known.{taskAt}
+use Rattle.plan.specs.Tables.{taskAt}
 
 -- "Take copies the sensor's pattern. Sum is a + b, Diff a − b, Scale factor × a .. Limit .. of a .. Wind gives the target's old value plus rate × a"; a cam the entry at position a
 unfoldable pub opValue : Op → ℕ → List ℕ → List ℕ → ℕ

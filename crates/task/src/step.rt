@@ -29,8 +29,8 @@ fn op_value(op: Op, target: usize, sensors: &[u64], cells: &[u64], cams: &[u32; 
         Op::Sum(a, b) => pattern::sum(entry(cells, a), entry(cells, b)),
         Op::Diff(a, b) => pattern::diff(entry(cells, a), entry(cells, b)),
         Op::Scale(a, factor) => pattern::scale(factor, entry(cells, a)),
-        Op::Limit(a, low, high) => pattern::limit(entry(cells, a), low, high),
-        Op::Wind(a, law) => pattern::wind(entry(cells, target), entry(cells, a), law),
+        Op::Limit(a, low, high) => limit::limit(entry(cells, a), low, high),
+        Op::Wind(a, law) => limit::wind(entry(cells, target), entry(cells, a), law),
         Op::Cam(a) => cam::step::cam(cams, entry(cells, a)),
     }
 }

@@ -48,13 +48,13 @@ loop-holds c =
     (w .0, search needs, ap dropBlanks (w .1))
 
 add-i : tie.Need-add-i Inv-loop μ-loop Inv-loop2 μ-loop2
-add-i c = omega (arith, c .blanks .ensures, run-le 4 (c .before .before .read4 .result))
+add-i c = omega (arith, c .blanks .ensures, run-le 4 (c .before .before .read-le4 .result))
 
 sub-result-2 : tie.Need-sub-result-2 Inv-loop μ-loop Inv-loop2 μ-loop2
-sub-result-2 c = omega (arith, c .before .blanks .ensures, run-le 4 (c .before .before .before .read4 .result))
+sub-result-2 c = omega (arith, c .before .blanks .ensures, run-le 4 (c .before .before .before .read-le4 .result))
 
 part-result-start-2 : tie.Need-part-result-start-2 Inv-loop μ-loop Inv-loop2 μ-loop2
-part-result-start-2 c = omega (arith, c .before .blanks .ensures, run-le 4 (c .before .before .before .read4 .result))
+part-result-start-2 c = omega (arith, c .before .blanks .ensures, run-le 4 (c .before .before .before .read-le4 .result))
 
 returns-2 : tie.Need-returns-2 Inv-loop μ-loop Inv-loop2 μ-loop2
 unfolding wordOf
@@ -67,8 +67,8 @@ returns-2 c =
     let i = l .loop .i in
     let e = g .if1 .end in
     let h = l .loop .inv in
-    let w = f .read4 .ensures in
-    slice-part s (i + b .blanks .result) e (omega (arith, b .blanks .ensures, run-le 4 (f .read4 .result))) (h .0)
+    let w = f .read-le4 .ensures in
+    slice-part s (i + b .blanks .result) e (omega (arith, b .blanks .ensures, run-le 4 (f .read-le4 .result))) (h .0)
     ∙ sym
     (h .2
     ∙ word-stop s (λ j. g .before .shared-slice-known .given j .fits) 4 i e (search needs) (h .0) (λ q. b .before .if3 .taken (w ∙ q))
@@ -81,7 +81,7 @@ loop-again c =
     let g = l .before .before in
     let s = g .before .before .args .line .now in
     let h = l .loop .inv in
-    let w = sym (c .before .read4 .ensures) ∙ c .if3 .left in
+    let w = sym (c .before .read-le4 .ensures) ∙ c .if3 .left in
     (h .0, search needs, h .2 ∙ word-skip s (λ j. g .before .shared-slice-known .given j .fits) 4 (l .loop .i) (g .if1 .end) (search needs) (h .0) w)
 
 loop2-holds : tie.Need-loop2-holds Inv-loop μ-loop Inv-loop2 μ-loop2

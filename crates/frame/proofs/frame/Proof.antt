@@ -27,7 +27,10 @@ returns-2 c =
     frame-mask _ _ _ _ _ _ ok (refused-test tests (c .if2 .taken))
 
 lengths-ok-requires : tie.Need-lengths-ok-requires
-lengths-ok-requires c κs = accepted-of-period _ (c .before .before .before .before .before .before .accepted-period .ensures) (c .before .before .before .before .before .if1 .left)
+lengths-ok-requires c κs =
+    let r = c .before .before .before .before .before .before .accepted-period in
+    let ok = accepted-of-period _ (r .ensures) (c .before .before .before .before .before .if1 .left) in
+    (ok, r .ensures ∙ accepted-period _ ok)
 
 returns-3 : tie.Need-returns-3
 returns-3 c =

@@ -1,12 +1,12 @@
 -- `frame::lengths_ok` meets its contract.
 use borrow.Author.Needs.{needs}
-use Rattle.system.specs.Frame.{lengthsOk}
+use Rattle.system.specs.FrameCall.{lengthsOk}
 use Rattle.frame.proofs.CallLaws.{small-numbers}
 use Rattle.frame.proofs.lengths_ok.Statement.{statement}
 use Rattle.frame.proofs.lengths_ok.Tie as tie
 
 size-requires : tie.Need-size-requires
-size-requires c κs = small-numbers (c .before .before .args .plan) (c .before .before .pre) (c .sizes-with .ensures)
+size-requires c κs = small-numbers (c .before .before .args .plan) (c .before .before .pre .0) (c .sizes-with .ensures)
 
 returns : tie.Need-returns
 unfolding lengthsOk

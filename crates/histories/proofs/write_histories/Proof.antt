@@ -4,7 +4,7 @@ use Prim.Native.Nat.{_+_, _*_, _-_, _≤_}
 use native.Mathlib.Omega.{arith}
 use lib.ListN.{length}
 use Rattle.array.specs.Index.{joined}
-use Rattle.array.specs.Place.{placed}
+use Rattle.array.specs.Code.{placed}
 use Rattle.array.proofs.PlacedLaws.{part-length}
 use Rattle.histories.specs.Code.{historyLineSize}
 use Rattle.histories.proofs.ListingLaws.{historyLineAt, lines-begin, lines-more, lines-kept, lines-all}

@@ -4,7 +4,7 @@ use Rattle.plan_line.proofs.is_header.Statement.{statement}
 use Rattle.plan_line.proofs.is_header.Tie as tie
 use Rattle.plan_line.proofs.is_header.Reads as reads
 use Rattle.plan_line.proofs.is_header.Lts as lts
-use Rattle.plan.proofs.entries.header_ok.Reads as header-ok-reads
+use Rattle.plan_entry.proofs.header_ok.Reads as header-ok-reads
 
 header-ok-requires : tie.Need-header-ok-requires
 header-ok-requires c κs = search needs

@@ -1,6 +1,6 @@
 -- `run::main` meets the needs of what it calls.
 use mathlib.Core.Path.{sym, _∙_}
-use Rattle.listing.proofs.CallLaws.{start-accepted}
+use Rattle.listing_start.proofs.CallLaws.{start-accepted}
 use borrow.Author.Needs.{needs}
 use Rattle.run.proofs.main.Statement.{statement}
 use Rattle.run.proofs.main.Tie as tie

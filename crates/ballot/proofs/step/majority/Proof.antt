@@ -8,8 +8,8 @@ use native.Mathlib.Nat.{not-suc-le-zero}
 use lib.ListN.{getD}
 use borrow.Author.Count.{below-more}
 use borrow.Author.Needs.{needs}
-use Rattle.ballot.specs.Majority.{holders, votedValue}
-use Rattle.ballot.specs.Code.{packed}
+use Rattle.ballot.specs.Majority.{holders}
+use Rattle.ballot.specs.Code.{votedValue, packed}
 use Rattle.ballot.proofs.MajorityLaws.{majority-of-most}
 use Rattle.ballot.proofs.ScanLaws.{holders-none, holders-grows}
 use Rattle.ballot.proofs.PackedLaws.{packed-hit, packed-miss, packed-few}

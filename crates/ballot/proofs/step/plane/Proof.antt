@@ -1,8 +1,7 @@
 -- `ballot::step::plane` meets its contract: what more than half put out most put out.
 use mathlib.Core.Path.{sym, ap, _∙_}
 use borrow.Author.Needs.{needs}
-use Rattle.ballot.specs.Majority.{votedValue}
-use Rattle.ballot.specs.Code.{packed}
+use Rattle.ballot.specs.Code.{votedValue, packed}
 use Rattle.ballot.proofs.MajorityLaws.{majority-some}
 use Rattle.ballot.proofs.PlaneLaws.{plane-of-most}
 use Rattle.ballot.proofs.step.plane.Statement.{statement}

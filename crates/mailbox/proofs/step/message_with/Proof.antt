@@ -25,7 +25,7 @@ abbrev μ-loop : tie.MeasureT-loop
 loop-holds : tie.Need-loop-holds Inv-loop μ-loop
 loop-holds c =
     let a = c .before .before .before .before .before .before .args in
-    let w = c .before .before .write2 in (
+    let w = c .before .before .write-be2 in (
       search needs,
       c .before .before .before .before .before .before .pre .2,
       omega (arith, c .before .before .before .before .before .before .pre .1, c .before .before .before .before .frame-before .ensures .1),
@@ -36,7 +36,7 @@ loop-holds c =
 loop-again : tie.Need-loop-again Inv-loop μ-loop
 loop-again c =
     let l = c .before .before .before .before .before .before .before .before .before .loop in
-    let w = c .before .before .write8 in
+    let w = c .before .before .write-be8 in
     let a = c .before .before .before .before .before .before .before .before .before .before .before .before .before .before .before .before .args in
     let m = a .t4 in
     let x = sent-cell (lent 0 (a .frames) (a .cells) 0 (a .voted .now) []) m (l .c) (c .before .before .before .before .before .before .before .before .before .before .before .before .before .before .frame-before .ensures .0) (rw (c .before .before .before .before .before .before .before .is-voted .ensures) at (c .before .before .before .before .before .sent .ensures)) in (

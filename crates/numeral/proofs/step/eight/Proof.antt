@@ -14,17 +14,17 @@ returns c =
     let d = a .d .now in
     let x = c .before .before .wrapping-sub-u64 .result in
     let y = c .before .wrapping-add-u64 .result in
-    rw (eight-none d (a .i) x y (λ k. omega (arith, c .before .before .before .before .shared-slice-known .given k)) (search needs) (c .before .before .wrapping-sub-u64 .ensures ∙ c .before .before .before .read8 .ensures) (c .before .wrapping-add-u64 .ensures) (c .if1 .taken))
+    rw (eight-none d (a .i) x y (λ k. omega (arith, c .before .before .before .before .shared-slice-known .given k)) (search needs) (c .before .before .wrapping-sub-u64 .ensures ∙ c .before .before .before .read-le8 .ensures) (c .before .wrapping-add-u64 .ensures) (c .if1 .taken))
 
 mul-pairs : tie.Need-mul-pairs
 mul-pairs c =
     let a = c .before .before .before .before .before .args in
-    omega (arith, eight-bound (a .d .now) (a .i) (c .before .before .wrapping-sub-u64 .result) (c .before .wrapping-add-u64 .result) (λ k. omega (arith, c .before .before .before .before .shared-slice-known .given k)) (search needs) (c .before .before .wrapping-sub-u64 .ensures ∙ c .before .before .before .read8 .ensures) (c .before .wrapping-add-u64 .ensures) (c .if1 .left))
+    omega (arith, eight-bound (a .d .now) (a .i) (c .before .before .wrapping-sub-u64 .result) (c .before .wrapping-add-u64 .result) (λ k. omega (arith, c .before .before .before .before .shared-slice-known .given k)) (search needs) (c .before .before .wrapping-sub-u64 .ensures ∙ c .before .before .before .read-le8 .ensures) (c .before .wrapping-add-u64 .ensures) (c .if1 .left))
 
 add-pairs : tie.Need-add-pairs
 add-pairs c =
     let a = c .before .before .before .before .before .args in
-    omega (arith, eight-bound (a .d .now) (a .i) (c .before .before .wrapping-sub-u64 .result) (c .before .wrapping-add-u64 .result) (λ k. omega (arith, c .before .before .before .before .shared-slice-known .given k)) (search needs) (c .before .before .wrapping-sub-u64 .ensures ∙ c .before .before .before .read8 .ensures) (c .before .wrapping-add-u64 .ensures) (c .if1 .left))
+    omega (arith, eight-bound (a .d .now) (a .i) (c .before .before .wrapping-sub-u64 .result) (c .before .wrapping-add-u64 .result) (λ k. omega (arith, c .before .before .before .before .shared-slice-known .given k)) (search needs) (c .before .before .wrapping-sub-u64 .ensures ∙ c .before .before .before .read-le8 .ensures) (c .before .wrapping-add-u64 .ensures) (c .if1 .left))
 
 mul-fours : tie.Need-mul-fours
 mul-fours c = let x = c .before .before .wrapping-sub-u64 .result in omega (arith, and-le-r (x * 10 + x / 256) 71777214294589695)
@@ -49,7 +49,7 @@ returns-2 c =
     let a = c .before .before .before .before .before .args in
     let x = c .before .before .wrapping-sub-u64 .result in
     let p = bitAnd (x * 10 + x / 256) 71777214294589695 in
-    eight-some (a .d .now) (a .i) x (c .before .wrapping-add-u64 .result) (λ k. omega (arith, c .before .before .before .before .shared-slice-known .given k)) (search needs) (c .before .before .wrapping-sub-u64 .ensures ∙ c .before .before .before .read8 .ensures) (c .before .wrapping-add-u64 .ensures) (c .if1 .left) p (bitAnd (p * 100 + p / 65536) 281470681808895) refl refl
+    eight-some (a .d .now) (a .i) x (c .before .wrapping-add-u64 .result) (λ k. omega (arith, c .before .before .before .before .shared-slice-known .given k)) (search needs) (c .before .before .wrapping-sub-u64 .ensures ∙ c .before .before .before .read-le8 .ensures) (c .before .wrapping-add-u64 .ensures) (c .if1 .left) p (bitAnd (p * 100 + p / 65536) 281470681808895) refl refl
 
 pub eight-spec : {M : Type 1} → statement M
 eight-spec =

@@ -5,7 +5,7 @@ use Prim.Native.Nat.{ℕ, _+_, _-_, _*_, _^_, _≤_, _<_, min}
 use native.Mathlib.Nat.{mod-lt, lt-of-lt-of-le}
 use native.Mathlib.Omega.{arith}
 use borrow.Author.Needs.{needs}
-use Rattle.plan.specs.Known.{taskAt}
+use Rattle.plan.specs.Tables.{taskAt}
 use Rattle.plan_walk.specs.Code.{afterTask}
 use Rattle.plan.proofs.AcceptedLaws.{Shape, shape-of, bound-small}
 use Rattle.plan_walk.proofs.WalkedLaws.{Walked, next-short, walked-start, walked-task, walked-next, walked-wrap, walked-found, walked-none}

@@ -7,7 +7,7 @@ use native.Mathlib.Omega.{arith}
 use Rattle.array.specs.Index.{fill}
 use Rattle.array.specs.Bit.{bit}
 use Rattle.plan.specs.Limits.{mostCells}
-use Rattle.plan.specs.Known.{votePlace}
+use Rattle.plan.specs.Tables.{votePlace}
 use Rattle.plan_words.proofs.WordsReadLaws.{frame-more}
 use borrow.Author.Needs.{needs}
 use Rattle.plan_words.proofs.step.frame_votes.Statement.{statement}

@@ -32,17 +32,19 @@ loop-holds : tie.Need-loop-holds Inv-loop μ-loop
 loop-holds c = (search needs, allBelow-none _, sym (fill-none _ _))
 
 returns-3 : tie.Need-returns-3 Inv-loop μ-loop
-returns-3 c = other-task (c .before .before .before .before .before .before .before .before .before .before .before .before .before .before .before .before .before .args .words .now) (c .zero-plan3 .ensures) (c .before .before .before .before .before .before .loop .k) (c .before .before .before .before .before .loop-test .taken) (task-malformed (c .before .before .before .before .before .before .before .before .before .before .before .before .before .before .before .before .before .args .words .now) (c .before .before .before .before .before .before .loop .k) (c .before .before .before .before .task .result) (c .before .before .before .task-of .result) (c .before .before .before .before .task .ensures) (c .before .before .before .task-of .ensures) (c .before .enum-told .given .1))
+returns-3 c =
+    let words = c .before .before .before .before .before .before .before .before .before .before .before .before .before .before .before .before .before .before .before .args .words .now in
+    other-task words (c .zero-plan3 .ensures) (c .before .before .before .before .before .before .loop .k) (c .before .before .before .before .before .loop-test .taken) (task-malformed words (c .before .before .before .before .before .before .loop .k) (c .before .before .before .before .task .result) (c .before .before .before .task-of .result) (c .before .before .before .before .task .ensures) (c .before .before .before .task-of .ensures) (c .before .enum-told .given .1))
 
 loop-again : tie.Need-loop-again Inv-loop μ-loop
 loop-again c =
-    let read = task-whole (c .before .before .before .before .before .before .before .before .before .before .before .before .before .before .before .before .before .args .words .now) (c .before .before .before .before .before .before .loop .k) (c .before .before .before .before .task .result) (c .before .before .before .task-of .result) (c .before .before .before .before .task .ensures) (c .before .before .before .task-of .ensures) (c .before .t .given .1) in
+    let read = task-whole (c .before .before .before .before .before .before .before .before .before .before .before .before .before .before .before .before .before .before .before .args .words .now) (c .before .before .before .before .before .before .loop .k) (c .before .before .before .before .task .result) (c .before .before .before .task-of .result) (c .before .before .before .before .task .ensures) (c .before .before .before .task-of .ensures) (c .before .t .given .1) in
     (search needs, allBelow-more _ (c .before .before .before .before .before .before .loop .k) (c .before .before .before .before .before .before .loop .inv .1) (read .0), stored-next _ _ _ (c .before .before .before .before .before .before .loop .inv .2) (read .1))
 
 returns-4 : tie.Need-returns-4 Inv-loop μ-loop
 returns-4 c =
-    plan-read (c .before .before .before .before .before .before .before .before .before .before .before .before .before .before .before .before .before .before .args .words .now) (c .before .before .before .before .before .before .before .before .before .before .before .before .before .before .before .before .if1 .left) (passed-test (c .before .before .before .before .before .before .before .before .before .before .before .before .before .before .before .votes-ok .ensures) (c .before .before .before .before .before .before .before .before .before .before .before .before .before .before .if2 .left)) (all-passed _ (c .before .before .before .before .before .before .before .loop .inv .1) (omega arith))
-    (c .before .before .before .before .before .before .before .before .before .before .before .before .initial-in .ensures) (stored-all _ _ _ (c .before .before .before .before .before .before .before .loop .inv .2) (omega arith)) (c .before .before .before .before .before .before .before .before .before .before .votes-in .ensures) (c .before .before .before .before .before .before .before .before .actuators-in .ensures)
+    plan-read (c .before .before .before .before .before .before .before .before .before .before .before .before .before .before .before .before .before .before .before .before .args .words .now) (c .before .before .before .before .before .before .before .before .before .before .before .before .before .before .before .before .before .before .if1 .left) (passed-test (c .before .before .before .before .before .before .before .before .before .before .before .before .before .before .before .before .before .votes-ok .ensures) (c .before .before .before .before .before .before .before .before .before .before .before .before .before .before .before .before .if2 .left)) (all-passed _ (c .before .before .before .before .before .before .before .loop .inv .1) (omega arith))
+    (c .before .before .before .before .before .before .before .before .before .before .before .before .before .copy .ensures) (stored-all _ _ _ (c .before .before .before .before .before .before .before .loop .inv .2) (omega arith)) (c .before .before .before .before .before .before .before .before .before .before .votes-in .ensures) (c .before .before .before .before .before .before .before .before .actuators-in .ensures)
 
 pub plan-spec : {M : Type 1} → statement M
 plan-spec =
@@ -55,6 +57,10 @@ plan-spec =
     (λ c κs. search needs)
     (λ c κs. search needs)
     returns-2
+    (λ c. search needs)
+    (λ c. search needs)
+    (λ c. search needs)
+    (λ c. search needs)
     (λ c κs. search needs)
     (λ c κs. search needs)
     (λ c κs. search needs)

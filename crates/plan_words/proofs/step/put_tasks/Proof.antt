@@ -7,7 +7,7 @@ use Rattle.array.specs.Index.{joined}
 use Rattle.array.proofs.PlacedLaws.{part-length}
 use Rattle.column.proofs.BufferLaws.{Laid, laid-length}
 use Rattle.plan.specs.Limits.{mostTasks}
-use Rattle.plan.specs.Known.{taskAt}
+use Rattle.plan.specs.Tables.{taskAt}
 use Rattle.plan_grammar.specs.Written.{taskLine}
 use Rattle.plan_words.specs.Words.{taskSize}
 use Rattle.plan_words.proofs.WordsPutLaws.{task-size, laid-whole, six-none, six-more}

@@ -3,9 +3,9 @@ use mathlib.Core.Path.{_≡_, ap, _∙_}
 use Prim.Native.Nat.{ℕ, _-_, _*_, _≤_}
 use native.Mathlib.Omega.{arith}
 use borrow.Author.Needs.{needs}
-use Rattle.plan.specs.Known.{taskAt}
+use Rattle.plan.specs.Tables.{taskAt}
 use Rattle.plan_grammar.specs.Line.{lineSize}
-use Rattle.array.specs.Place.{placed}
+use Rattle.array.specs.Code.{placed}
 use Rattle.plan_grammar.specs.Written.{taskLine}
 use Rattle.plan_writer.proofs.WriterLaws.{rowsOf, lines-none, lines-size, lines-more}
 use Rattle.plan_writer.proofs.step.write_tasks.Statement.{statement}

@@ -9,7 +9,7 @@ use borrow.Author.Needs.{needs}
 use Rattle.array.specs.Index.{howMany}
 use Rattle.array.proofs.IndexLaws.{howMany-none, howMany-hit, howMany-miss, howMany-grows}
 use Rattle.plan_grammar.specs.Line.{lineSize}
-use Rattle.array.specs.Place.{placed}
+use Rattle.array.specs.Code.{placed}
 use Rattle.plan_writer.proofs.WriterLaws.{voteRows, votes-none, votes-size, votes-hit, votes-miss}
 use Rattle.plan_writer.proofs.step.write_votes.Statement.{statement}
 use Rattle.plan_writer.proofs.step.write_votes.Tie as tie

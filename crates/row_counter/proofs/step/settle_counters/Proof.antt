@@ -8,9 +8,10 @@ use lib.ListN.{length}
 use borrow.Author.Needs.{needs}
 use Rattle.plan.specs.Limits.{mostNodes}
 use Rattle.rows.specs.Code.{rowCount}
-use Rattle.row_counter.specs.Code.{Put, isGood}
+use Rattle.row_counter.specs.Code.{Put}
+use Rattle.row_word.specs.Code.{isGood}
 use Rattle.row_counter.proofs.PutLaws.{suc-apart, put-none, put-taken, put-left, put-all}
-use Rattle.row_counter.proofs.HeardLaws.{good-if}
+use Rattle.row_word.proofs.HeardLaws.{good-if}
 use Rattle.row_counter.proofs.step.settle_counters.Statement.{statement}
 use Rattle.row_counter.proofs.step.settle_counters.Tie as tie
 

@@ -1,7 +1,7 @@
 -- `row_counter::step::vote_counter` meets its contract: one way out for each case of what is decided.
 use mathlib.Core.Path.{refl, ap}
 use borrow.Author.Needs.{needs}
-use Rattle.ballot.specs.Majority.{votedValue}
+use Rattle.ballot.specs.Code.{votedValue}
 use Rattle.row_counter.proofs.DecideLaws.{counter-each, counter-none, counter-below, counter-above}
 use Rattle.row_counter.proofs.step.vote_counter.Statement.{statement}
 use Rattle.row_counter.proofs.step.vote_counter.Tie as tie

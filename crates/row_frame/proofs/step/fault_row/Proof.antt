@@ -22,7 +22,7 @@ loop-holds : tie.Need-loop-holds Inv-loop μ-loop
 loop-holds c = (search needs, search needs, sym (fill-none _ _))
 
 loop-again : tie.Need-loop-again Inv-loop μ-loop
-loop-again c = (search needs, search needs, stored-next _ _ _ (c .before .before .before .loop .inv .2) (c .read8 .ensures ∙ rw (c .before .cell-at .ensures)))
+loop-again c = (search needs, search needs, stored-next _ _ _ (c .before .before .before .loop .inv .2) (c .read-be8 .ensures ∙ rw (c .before .cell-at .ensures)))
 
 returns : tie.Need-returns Inv-loop μ-loop
 returns c = stored-all _ _ _ (c .before .loop .inv .2) (omega arith)

@@ -8,7 +8,7 @@ use native.Mathlib.Nat.{mod-lt}
 use lib.ListN.{length, getD, set, length-set}
 use borrow.Author.Needs.{needs}
 use Rattle.array.proofs.PlacedLaws.{part-length}
-use Rattle.plan.specs.Known.{taskAt}
+use Rattle.plan.specs.Tables.{taskAt}
 use Rattle.plan.specs.Limits.{mostFrames, mostCells, mostTasks}
 use Rattle.plan.proofs.AcceptedLaws.{shape-of-accepted, op-in}
 use Rattle.task.specs.Task.{opValue, runTasks}

@@ -22,8 +22,8 @@ abbrev μ-loop : tie.MeasureT-loop
 loop-holds : tie.Need-loop-holds Inv-loop μ-loop
 loop-holds c = let a = c .before .before .args in (search needs, search needs, search needs, told-none (putFrom (a .s) (a .mask) (a .faults .now) (a .cells .now) (a .cell) (a .a)) (replicate mostNodes 0))
 
-read8-requires : tie.Need-read8-requires Inv-loop μ-loop
-read8-requires c κs = let o = c .before .before .before .before .before .before .before in
+read-be8-requires : tie.Need-read-be8-requires Inv-loop μ-loop
+read-be8-requires c κs = let o = c .before .before .before .before .before .before .before in
     setpoint-in (o .args .s) (o .args .mask) _ _ (o .args .a) (o .pre .1) (c .before .before .before .loop-test .taken) (sym (c .before .before .is-bad .ensures) ∙ c .before .if1 .taken) (o .pre .4) (c .setpoint-at .ensures)
 
 loop-again : tie.Need-loop-again Inv-loop μ-loop
@@ -58,7 +58,7 @@ put-out-spec =
     loop-holds
     (λ c κs. search needs)
     (λ c κs. search needs)
-    read8-requires
+    read-be8-requires
     (λ c. search needs)
     (λ c. search needs)
     (λ c. search needs)

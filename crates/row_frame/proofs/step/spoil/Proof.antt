@@ -23,8 +23,8 @@ abbrev μ-loop : tie.MeasureT-loop
 loop-holds : tie.Need-loop-holds Inv-loop μ-loop
 loop-holds c = let a = c .before .before .before .args in (search needs, search needs, search needs, search needs, spoiled-first (a .s) (a .mask) (a .faults .now) _ _)
 
-read2-requires : tie.Need-read2-requires Inv-loop μ-loop
-read2-requires c κs = let o = c .before .before .before .before .before .before .before .before in
+read-be2-requires : tie.Need-read-be2-requires Inv-loop μ-loop
+read-be2-requires c κs = let o = c .before .before .before .before .before .before .before .before in
     omega (arith, memory-in (o .args .s) (o .args .mask) (length (o .args .faults .now)) (c .before .before .before .before .loop .j) (o .pre .1) (c .before .before .before .loop-test .taken) (sym (c .before .before .is-bad .ensures) ∙ c .before .if1 .taken) (c .part-at .ensures))
 
 fault-row-requires : tie.Need-fault-row-requires Inv-loop μ-loop
@@ -76,7 +76,7 @@ spoil-spec =
     (λ c κs. search needs)
     (λ c. search needs)
     (λ c. search needs)
-    read2-requires
+    read-be2-requires
     (λ c. search needs)
     (λ c. search needs)
     (λ c. search needs)

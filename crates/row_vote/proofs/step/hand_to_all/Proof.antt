@@ -8,9 +8,10 @@ use lib.ListN.{length}
 use borrow.Author.Needs.{needs}
 use Rattle.plan.specs.Limits.{mostNodes, mostCells}
 use Rattle.rows.specs.Code.{wordCount, wordPlace}
-use Rattle.row_counter.specs.Code.{Put, isGood}
+use Rattle.row_counter.specs.Code.{Put}
+use Rattle.row_word.specs.Code.{isGood}
 use Rattle.row_counter.proofs.PutLaws.{put-none, put-taken, put-left, put-all}
-use Rattle.row_counter.proofs.HeardLaws.{good-if}
+use Rattle.row_word.proofs.HeardLaws.{good-if}
 use Rattle.row_vote.proofs.PutLaws.{column-apart}
 use Rattle.row_vote.proofs.step.hand_to_all.Statement.{statement}
 use Rattle.row_vote.proofs.step.hand_to_all.Tie as tie

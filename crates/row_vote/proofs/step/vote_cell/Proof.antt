@@ -5,7 +5,7 @@ use native.Mathlib.Omega.{arith}
 use lib.ListN.{getD, getD-replicate}
 use borrow.Author.Needs.{needs}
 use Rattle.plan.specs.Limits.{mostNodes}
-use Rattle.ballot.specs.Majority.{votedValue}
+use Rattle.ballot.specs.Code.{votedValue}
 use Rattle.row_vote.specs.Code.{votedAt}
 use Rattle.row_vote.proofs.DecideLaws.{cell-each, cell-none, cell-some}
 use Rattle.row_vote.proofs.step.vote_cell.Statement.{statement}

@@ -11,7 +11,7 @@ use Rattle.array.proofs.LeastLaws.{least-same}
 use Rattle.array.proofs.TestLaws.{and-false-right}
 use Rattle.plan.specs.Limits.{mostCells}
 use Rattle.rows.specs.Code.{wordCount, wordPlace}
-use Rattle.row_counter.specs.Code.{isGood}
+use Rattle.row_word.specs.Code.{isGood}
 use Rattle.row_counter.proofs.PutLaws.{put-same}
 use Rattle.row_vote.specs.Code.{takes, votedAt, wordAfter, columnsLeast}
 use Rattle.row_vote.proofs.PutLaws.{takes-one}

@@ -4,7 +4,7 @@ use Prim.Native.Nat.{ℕ, _-_, _≤_}
 use native.Mathlib.Omega.{arith}
 use lib.ListN.{getD, length-set}
 use borrow.Author.Needs.{needs}
-use Rattle.array.specs.Place.{placed}
+use Rattle.array.specs.Code.{placed}
 use Rattle.run_line.specs.Line.{planeValuesAt}
 use Rattle.run_line.proofs.WritingLaws.{planeColumns, columns-none, columns-size, columns-more, columns-ended}
 use Rattle.run_line.proofs.step.put_values.Statement.{statement}

@@ -5,10 +5,9 @@ use native.Mathlib.Omega.{arith}
 use lib.ListN.{getD, length-replicate}
 use borrow.Author.Needs.{needs}
 use Rattle.array.specs.Index.{fill}
-use Rattle.array.proofs.PlacesLaws.{fill-none}
+use Rattle.array.proofs.PlacesLaws.{fill-none, fill-copied}
 use Rattle.array.proofs.LoopLaws.{stored-next, stored-all}
 use Rattle.plan.specs.Limits.{mostNodes}
-use Rattle.rows.proofs.RowLaws.{fill-copied}
 use Rattle.system_words.proofs.step.counts.Statement.{statement}
 use Rattle.system_words.proofs.step.counts.Tie as tie
 
@@ -25,7 +24,7 @@ loop-again : tie.Need-loop-again Inv-loop μ-loop
 loop-again c = (search needs, stored-next _ _ _ (c .before .before .loop .inv .1) refl)
 
 returns : tie.Need-returns Inv-loop μ-loop
-returns c = stored-all _ _ _ (c .before .loop .inv .1) (omega arith) ∙ fill-copied (c .before .before .args .good .now) _ mostNodes (c .before .before .pre) (length-replicate {A = ℕ} mostNodes 0)
+returns c = stored-all _ _ _ (c .before .loop .inv .1) (omega arith) ∙ fill-copied 0 (c .before .before .args .good .now) _ mostNodes (c .before .before .pre) (length-replicate {A = ℕ} mostNodes 0)
 
 pub counts-spec : {M : Type 1} → statement M
 counts-spec =

@@ -5,10 +5,9 @@ use native.Mathlib.Omega.{arith}
 use lib.ListN.{length, getD}
 use borrow.Author.Needs.{needs}
 use Rattle.array.specs.Index.{fill}
-use Rattle.array.proofs.PlacesLaws.{fill-none, fill-length}
+use Rattle.array.proofs.PlacesLaws.{fill-none, fill-length, fill-copied}
 use Rattle.array.proofs.LoopLaws.{stored-next, stored-all}
 use Rattle.plan.specs.Limits.{mostNodes}
-use Rattle.rows.proofs.RowLaws.{fill-copied}
 use Rattle.system_words.proofs.step.put_good.Statement.{statement}
 use Rattle.system_words.proofs.step.put_good.Tie as tie
 
@@ -32,7 +31,7 @@ same-length c = ap length (c .before .loop .inv .2) ∙ fill-length _ _ _
 
 returns : tie.Need-returns Inv-loop μ-loop
 returns c = let n : length (c .before .before .args .t1) ≡ mostNodes = search needs in
-    stored-all _ _ _ (c .before .loop .inv .2) (omega arith) ∙ fill-copied (c .before .before .args .t1) (c .before .before .args .good .now) mostNodes n (c .before .loop .inv .1)
+    stored-all _ _ _ (c .before .loop .inv .2) (omega arith) ∙ fill-copied 0 (c .before .before .args .t1) (c .before .before .args .good .now) mostNodes n (c .before .loop .inv .1)
 
 pub put-good-spec : {M : Type 1} → statement M
 put-good-spec =

@@ -1,0 +1,1 @@
+// A press of one or two controllers, as definitions and laws over those of `system`.

@@ -1,8 +1,0 @@
--- The digits of a number.
-use Prim.Native.Nat.{ℕ, zero, suc, _/_, _%_}
-use mathlib.Core.List.{List, [], _∷_, _++_}
-
--- the last w digits of a number, the highest first
-unfoldable pub digitList : ℕ → ℕ → List ℕ
-digitList zero v = []
-digitList (suc w) v = digitList w (v / 10) ++ (v % 10 ∷ [])

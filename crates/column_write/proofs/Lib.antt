@@ -1,0 +1,4 @@
+pub mod WritingLaws
+pub mod PrintLaws
+pub mod DigitWordLaws
+pub mod PaddingLaws

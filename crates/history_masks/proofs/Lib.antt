@@ -1,0 +1,5 @@
+pub mod HistoryLaws
+pub mod BoundLaws
+pub mod MostLaws
+pub mod CodeLaws
+pub mod LimitsLaws

@@ -1,0 +1,2 @@
+// The histories of a small press, counted and written.
+pub mod step;

@@ -1,0 +1,1 @@
+// Demand 3 on computed runs, which show that it is not empty: laws alone.
