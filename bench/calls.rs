@@ -28,14 +28,21 @@ mod random;
 use library::*;
 use std::hint::black_box;
 
-const NAMES: [&str; 19] = [
+const NAMES: [&str; 22] = [
     "plan_read", "plan_write", "plan_check", "plan_period", "message_size", "mailbox_size", "faults_size", "text_size",
     "node_power_on", "node_compute", "node_message", "node_vote", "node_setpoints", "single_frame",
     "system_power_on", "system_frame", "system_working", "system_equal", "plan_histories",
+    "listing_start", "listing_next", "listing_refusal",
 ];
 
 /// The frames of a history, the most that are listed.
 const FRAMES: usize = 4;
+
+/// Refusal 10 of the last line that can be refused.
+const REFUSAL: u64 = 10 + 256 * 100_001;
+
+/// The fill of a run line; fault bytes are these too.
+const FILL: u8 = 0x5a;
 
 /// What the calls are lent.
 #[derive(Clone)]
@@ -43,50 +50,50 @@ struct Lent {
     text: Vec<u8>,
     words: Vec<u64>,
     out: Vec<u8>,
-    counter: u16,
-    cells: Vec<u64>,
+    memory: Vec<u64>,
     sensors: Vec<u64>,
     message: Vec<u8>,
     mailbox: Vec<u8>,
     place: Vec<u64>,
-    counters: Vec<u16>,
-    rows: Vec<u64>,
-    good: Vec<u16>,
+    system: Vec<u64>,
     mask: u64,
     faults: Vec<u8>,
+    run: Vec<u64>,
+    line: Vec<u8>,
     number: usize,
 }
 
 impl Lent {
-    /// A system at power-on, a node before the plan's last frame, where the scan of the tasks is longest, and a mailbox of messages equal to its own, so that a vote takes it
+    /// A system and a run at power-on, a node before the plan's last frame, where the scan of the tasks is longest, and a mailbox of messages equal to its own, so that a vote takes it
     /// there again.
     fn of(text: Vec<u8>, mask: u64) -> Lent {
         let mut l = Lent {
             text,
             words: vec![0; 446],
             out: vec![0; 35_169],
-            counter: 0,
-            cells: vec![0; 32],
+            memory: vec![0; 33],
             sensors: vec![],
             message: vec![],
             mailbox: vec![],
             place: vec![],
-            counters: vec![0; 7],
-            rows: vec![0; 224],
-            good: vec![0; 7],
+            system: vec![0; 238],
             mask,
             faults: vec![],
+            run: vec![0; 273],
+            line: vec![],
             number: 0,
         };
-        assert_eq!(ours(0, &mut l), 0, "the plan is not accepted");
+        assert_eq!(ours(19, &mut l), 0, "the plan is not accepted");
         l.message = vec![0; ours(4, &mut l) as usize];
-        l.faults = vec![0x5a; ours(6, &mut l) as usize];
+        l.faults = vec![FILL; ours(6, &mut l) as usize];
         l.sensors = (0..l.words[3]).map(|k| (k as f64 + 0.5).to_bits()).collect();
         l.place = vec![0; l.words[4] as usize];
+        let sensors: String = l.sensors.iter().map(|pattern| format!("{pattern:20}")).collect();
+        l.line = format!("{mask:4}{FILL:4}{sensors}\n").into_bytes();
         for index in [8, 14] {
             assert_eq!(ours(index, &mut l), 0);
         }
-        l.counter = (l.words[1] as u16).saturating_sub(2);
+        l.memory[0] = l.words[1].saturating_sub(2);
         for index in [9, 10] {
             assert_eq!(ours(index, &mut l), 0);
         }
@@ -96,42 +103,43 @@ impl Lent {
 }
 
 fn ours(index: usize, l: &mut Lent) -> u64 {
-    let (plan, size) = (l.words.as_ptr(), l.words.len());
-    let (cells, rows) = (l.cells.as_mut_ptr(), l.rows.as_mut_ptr());
-    let (counters, good) = (l.counters.as_mut_ptr(), l.good.as_mut_ptr());
+    let plan = l.words.as_ptr();
+    let (memory, system, run) = (l.memory.as_mut_ptr(), l.system.as_mut_ptr(), l.run.as_mut_ptr());
+    let (text, length) = (l.text.as_ptr(), l.text.len());
     let (sensors, read) = (l.sensors.as_ptr(), l.sensors.len());
     let (place, actuators) = (l.place.as_mut_ptr(), l.place.len());
+    let (out, room) = (l.out.as_mut_ptr(), l.out.len());
     unsafe {
         match index {
-            0 => ragbasalt_plan_read(l.text.as_ptr(), l.text.len(), l.words.as_mut_ptr(), size),
-            1 => ragbasalt_plan_write(plan, size, l.out.as_mut_ptr(), l.out.len(), &mut l.number),
-            2 => ragbasalt_plan_check(plan, size),
-            3 => ragbasalt_plan_period(plan, size, &mut l.number),
-            4 => ragbasalt_message_size(plan, size) as u64,
-            5 => ragbasalt_mailbox_size(plan, size) as u64,
-            6 => ragbasalt_faults_size(plan, size) as u64,
-            7 => ragbasalt_text_size(plan, size) as u64,
-            8 => ragbasalt_node_power_on(plan, size, &mut l.counter, cells, 32),
-            9 => ragbasalt_node_compute(plan, size, &mut l.counter, cells, 32, sensors, read),
-            10 => ragbasalt_node_message(plan, size, l.counter, cells, 32, l.message.as_mut_ptr(), l.message.len()),
-            11 => ragbasalt_node_vote(plan, size, &mut l.counter, cells, 32, l.mailbox.as_ptr(), l.mailbox.len(), &mut l.number),
-            12 => ragbasalt_node_setpoints(plan, size, l.counter, cells, 32, place, actuators),
-            13 => ragbasalt_single_frame(plan, size, &mut l.counter, cells, 32, sensors, read, place, actuators),
-            14 => ragbasalt_system_power_on(plan, size, counters, 7, rows, 224, good, 7),
-            15 => ragbasalt_system_frame(
-                plan, size, counters, 7, rows, 224, good, 7, sensors, read, l.mask, l.faults.as_ptr(), l.faults.len(), place, actuators,
-                &mut l.number,
-            ),
-            16 => ragbasalt_system_working(plan, size, good, 7, l.mask, &mut l.number),
-            17 => ragbasalt_system_equal(plan, size, counters, 7, rows, 224, good, 7, l.counter, cells, 32, &mut l.number),
-            _ => ragbasalt_plan_histories(plan, size, FRAMES, l.out.as_mut_ptr(), l.out.len(), &mut l.number),
+            0 => ragbasalt_plan_read(text, length, l.words.as_mut_ptr()),
+            1 => ragbasalt_plan_write(plan, out, room, &mut l.number),
+            2 => ragbasalt_plan_check(plan),
+            3 => ragbasalt_plan_period(plan, &mut l.number),
+            4 => ragbasalt_message_size(plan) as u64,
+            5 => ragbasalt_mailbox_size(plan) as u64,
+            6 => ragbasalt_faults_size(plan) as u64,
+            7 => ragbasalt_text_size(plan) as u64,
+            8 => ragbasalt_node_power_on(plan, memory),
+            9 => ragbasalt_node_compute(plan, memory, sensors, read),
+            10 => ragbasalt_node_message(plan, memory, l.message.as_mut_ptr(), l.message.len()),
+            11 => ragbasalt_node_vote(plan, memory, l.mailbox.as_ptr(), l.mailbox.len(), &mut l.number),
+            12 => ragbasalt_node_setpoints(plan, memory, place, actuators),
+            13 => ragbasalt_single_frame(plan, memory, sensors, read, place, actuators),
+            14 => ragbasalt_system_power_on(plan, system),
+            15 => ragbasalt_system_frame(plan, system, sensors, read, l.mask, l.faults.as_ptr(), l.faults.len(), place, actuators, &mut l.number),
+            16 => ragbasalt_system_working(plan, system, l.mask, &mut l.number),
+            17 => ragbasalt_system_equal(plan, system, memory, &mut l.number),
+            18 => ragbasalt_plan_histories(plan, FRAMES, out, room, &mut l.number),
+            19 => ragbasalt_listing_start(text, length, l.words.as_mut_ptr(), run),
+            20 => ragbasalt_listing_next(plan, run, l.line.as_ptr(), l.line.len(), out, room, &mut l.number),
+            _ => ragbasalt_listing_refusal(REFUSAL, out, room, &mut l.number),
         }
     }
 }
 
 /// The reference takes a plan: its words are read first, as ours are.
 fn reference(index: usize, l: &mut Lent) -> u64 {
-    let plan = if index == 0 { None } else { calls::plan_of(&l.words) };
+    let plan = if [0, 19, 21].contains(&index) { None } else { calls::plan_of(&l.words) };
     let plan = plan.as_ref();
     match index {
         0 => calls::plan_read(&l.text, &mut l.words),
@@ -142,19 +150,20 @@ fn reference(index: usize, l: &mut Lent) -> u64 {
         5 => calls::mailbox_size(plan) as u64,
         6 => calls::faults_size(plan) as u64,
         7 => calls::text_size(plan) as u64,
-        8 => calls::node_power_on(plan, &mut l.counter, &mut l.cells),
-        9 => calls::node_compute(plan, &mut l.counter, &mut l.cells, &l.sensors),
-        10 => calls::node_message(plan, l.counter, &l.cells, &mut l.message),
-        11 => calls::node_vote(plan, &mut l.counter, &mut l.cells, &l.mailbox, &mut l.number),
-        12 => calls::node_setpoints(plan, l.counter, &l.cells, &mut l.place),
-        13 => calls::single_frame(plan, &mut l.counter, &mut l.cells, &l.sensors, &mut l.place),
-        14 => calls::system_power_on(plan, &mut l.counters, &mut l.rows, &mut l.good),
-        15 => calls::system_frame(
-            plan, &mut l.counters, &mut l.rows, &mut l.good, &l.sensors, l.mask, &l.faults, &mut l.place, &mut l.number,
-        ),
-        16 => calls::system_working(plan, &l.good, l.mask, &mut l.number),
-        17 => calls::system_equal(plan, &l.counters, &l.rows, &l.good, l.counter, &l.cells, &mut l.number),
-        _ => calls::plan_histories(plan, FRAMES, &mut l.out, &mut l.number),
+        8 => calls::node_power_on(plan, &mut l.memory),
+        9 => calls::node_compute(plan, &mut l.memory, &l.sensors),
+        10 => calls::node_message(plan, &l.memory, &mut l.message),
+        11 => calls::node_vote(plan, &mut l.memory, &l.mailbox, &mut l.number),
+        12 => calls::node_setpoints(plan, &l.memory, &mut l.place),
+        13 => calls::single_frame(plan, &mut l.memory, &l.sensors, &mut l.place),
+        14 => calls::system_power_on(plan, &mut l.system),
+        15 => calls::system_frame(plan, &mut l.system, &l.sensors, l.mask, &l.faults, &mut l.place, &mut l.number),
+        16 => calls::system_working(plan, &l.system, l.mask, &mut l.number),
+        17 => calls::system_equal(plan, &l.system, &l.memory, &mut l.number),
+        18 => calls::plan_histories(plan, FRAMES, &mut l.out, &mut l.number),
+        19 => calls::listing_start(&l.text, &mut l.words, &mut l.run),
+        20 => calls::listing_next(plan, &mut l.run, &l.line, &mut l.out, &mut l.number),
+        _ => calls::listing_refusal(REFUSAL, &mut l.out, &mut l.number),
     }
 }
 

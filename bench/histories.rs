@@ -35,15 +35,15 @@ fn main() {
     let mut masks = vec![0u8; 29_584];
     let (mut count, mut period) = (0, 0);
     unsafe {
-        assert_eq!(ragbasalt_plan_read(text.as_ptr(), text.len(), words.as_mut_ptr(), words.len()), 0, "the plan is not accepted");
+        assert_eq!(ragbasalt_plan_read(text.as_ptr(), text.len(), words.as_mut_ptr()), 0, "the plan is not accepted");
         match what.as_str() {
             "call" => {
                 for _ in 0..times {
-                    black_box(ragbasalt_plan_histories(words.as_ptr(), words.len(), frames, masks.as_mut_ptr(), masks.len(), &mut count));
+                    black_box(ragbasalt_plan_histories(words.as_ptr(), frames, masks.as_mut_ptr(), masks.len(), &mut count));
                 }
             }
             _ => {
-                ragbasalt_plan_period(words.as_ptr(), words.len(), &mut period);
+                ragbasalt_plan_period(words.as_ptr(), &mut period);
                 let (masks, listed) = tried(words[0] as u32, period, frames);
                 println!("{period} {listed} {masks}");
             }

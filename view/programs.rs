@@ -42,12 +42,15 @@ pub struct Programs {
 /// Where the prover's output goes, below the repository's folder.
 const LOG: &str = "target/prove.log";
 
-/// rt, with its scratch files in memory where that is possible. Some of its lines go to its standard error.
+/// A command that calls rt, with rt's scratch files in memory where that is possible. Some of its lines go to its standard error.
 const PROVE: &str = r#"folder=$(bash .ci/scratch 2>/dev/null)
 [ -z "$folder" ] || { export TMPDIR="$folder"; trap 'rm -rf "$folder"' EXIT; }
-rt "$@" 2>&1"#;
+"$@" 2>&1"#;
 
 const LIBRARY: &str = "target/staticlib/libragbasalt.a";
+
+/// What the crates of the library's calls begin with.
+const FAMILY: &str = "ragbasalt_";
 
 /// The newest change of a source of the crates.
 fn newest(folder: &Path) -> Option<SystemTime> {
@@ -82,9 +85,9 @@ fn crate_line(line: &str) -> Option<(&str, &str)> {
     if what.starts_with("proved (") {
         return Some((name, what));
     }
-    // The library's own crate is proved where it is built.
-    if what.starts_with("has the functions") {
-        return Some((name, "built"));
+    // A family of the library's calls is proved where it is built.
+    if let Some(family) = what.strip_prefix("has the functions of ") {
+        return Some((family.split_whitespace().next()?, "built"));
     }
     (what.starts_with("NOT PROVED") || what.contains("FAILED")).then_some((name, "failed"))
 }
@@ -112,9 +115,13 @@ impl Programs {
         modified(built).is_some_and(|time| Some(time) >= sources)
     }
 
+    fn list(&self) -> String {
+        fs::read_to_string(self.root.join("crates.txt")).unwrap_or_default()
+    }
+
     /// The crates that a crate lies above, itself among them, by crates.txt.
     fn crates(&self, names: &[&str]) -> BTreeSet<String> {
-        let list = fs::read_to_string(self.root.join("crates.txt")).unwrap_or_default();
+        let list = self.list();
         let below = |name: &str| {
             let line = list.lines().find_map(|line| line.strip_prefix(name)?.strip_prefix(':'));
             let listed = line.and_then(|rest| rest.split('#').next());
@@ -131,8 +138,9 @@ impl Programs {
         found
     }
 
-    /// Runs rt and shows a line for each crate; what rt prints goes to the log.
-    fn prove(&self, verb: &str, names: &[&str]) -> Found<()> {
+    /// Runs a command that calls rt for these crates, and shows a line for each crate; what rt prints
+    /// goes to the log.
+    fn prove(&self, command: &[&str], names: &[&str]) -> Found<()> {
         let count = self.crates(names).len();
         let cannot = |what: String| {
             Unable(format!("{what}; the programs are proved and built by rt, the command of the Rattle toolchain"))
@@ -142,25 +150,28 @@ impl Programs {
         let mut log = fs::File::create(self.root.join(LOG))
             .map_err(|error| cannot(format!("{LOG} cannot be written: {error}")))?;
         let mut rt = Command::new("sh")
-            .args(["-c", PROVE, "rt", verb])
-            .args(names)
+            .args(["-c", PROVE, "prove"])
+            .args(command)
             .current_dir(&self.root)
             .stdin(Stdio::null())
             .stdout(Stdio::piped())
             .spawn()
             .map_err(|error| cannot(format!("rt cannot be run: {error}")))?;
         let output = BufReader::new(rt.stdout.take().expect("a pipe"));
-        let (mut done, mut failed) = (0, None);
+        let (mut done, mut failed) = (BTreeSet::new(), None);
         for line in output.split(b'\n').map_while(Result::ok) {
             let line = String::from_utf8_lossy(&line).into_owned();
             let _ = writeln!(log, "{line}");
             match crate_line(&line) {
                 Some((_, "failed")) if failed.is_some() => {}
                 Some((name, "failed")) => failed = Some(String::from(name)),
-                Some((_, "unchanged")) => done += 1,
+                // Of several calls of rt the later ones find what the first has proved.
                 Some((name, what)) => {
-                    done += 1;
-                    say(&format!("{done:>2} of {count} {name} {what}, log {LOG}"));
+                    let new = done.insert(String::from(name));
+                    if new && what != "unchanged" {
+                        let done = done.len();
+                        say(&format!("{done:>2} of {count} {name} {what}, log {LOG}"));
+                    }
                 }
                 None => {}
             }
@@ -170,7 +181,7 @@ impl Programs {
             (Some(0), _) => Ok(()),
             (Some(127), _) => Err(cannot(String::from("rt is not here"))),
             (_, Some(name)) => unable(format!("{name} is not proved; {LOG} has why")),
-            (_, None) => unable(format!("rt {verb} failed; {LOG} has why")),
+            (_, None) => unable(format!("{} failed; {LOG} has why", command[..2].join(" "))),
         }
     }
 
@@ -183,7 +194,7 @@ impl Programs {
         }
         say("proving and building the program; from nothing this takes some minutes");
         let now = SystemTime::now();
-        self.prove("check", names)?;
+        self.prove(&[&["rt", "check"], names].concat(), names)?;
         // rt leaves a program alone whose sources are the same though newer. A source that was saved
         // meanwhile is newer still.
         for name in names {
@@ -198,7 +209,10 @@ impl Programs {
     pub fn library(&self) -> Found<&'static str> {
         if !self.is_fresh(&self.root.join(LIBRARY)) {
             say("proving and building the library; from nothing this takes some minutes");
-            self.prove("staticlib", &["ragbasalt"])?;
+            let list = self.list();
+            let names = list.lines().filter_map(|line| line.split(':').next());
+            let families: Vec<&str> = names.filter(|name| name.starts_with(FAMILY)).collect();
+            self.prove(&["bash", ".ci/library"], &families)?;
         }
         Ok(LIBRARY)
     }

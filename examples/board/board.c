@@ -16,20 +16,20 @@ static size_t nodes, cells, sensor_count, actuators, message_bytes;
 /* What each node has on its board. */
 static struct {
     ragbasalt_memory memory;
-    uint8_t message[RAGBASALT_MESSAGE_BYTES];
-    uint8_t mailbox[RAGBASALT_MAILBOX_BYTES];
-    uint64_t setpoints[RAGBASALT_ACTUATORS];
+    uint8_t message[RAGBASALT_MAX_MESSAGE_BYTES];
+    uint8_t mailbox[RAGBASALT_MAX_MAILBOX_BYTES];
+    uint64_t setpoints[RAGBASALT_MAX_ACTUATORS];
     size_t agreement;
-} board[RAGBASALT_NODES];
+} board[RAGBASALT_MAX_NODES];
 
-static void stop(const char *what, uint64_t number, uint64_t line)
+static void stop(const char *what, unsigned number, uint64_t line)
 {
-    fprintf(stderr, "board: %s: refused with %" PRIu64 ", line %" PRIu64 "\n", what, number, line);
+    fprintf(stderr, "board: %s: refused with %u, line %" PRIu64 "\n", what, number, line);
     exit(EXIT_FAILURE);
 }
 
 /* Every call of the library goes through here. */
-static void done(const char *call, uint64_t answer)
+static void done(const char *call, ragbasalt_answer answer)
 {
     if (answer != RAGBASALT_DONE)
         stop(call, ragbasalt_number_of(answer), ragbasalt_line_of(answer));
@@ -67,7 +67,7 @@ static int column(const char *text, size_t width, uint64_t *value)
 /* The next run line: mask, fill and the sensors. 0 at the end of the file. */
 static int run_line(FILE *run, uint64_t frame, uint64_t *mask, uint64_t *fill, uint64_t *sensors)
 {
-    char line[8 + 20 * RAGBASALT_SENSORS + 1];
+    char line[8 + 20 * RAGBASALT_MAX_SENSORS + 1];
     size_t length = 8 + 20 * sensor_count + 1, s, got = fread(line, 1, length, run);
     int right = got == length && column(line, 4, mask) && column(line + 4, 4, fill);
     if (got == 0)
@@ -75,7 +75,7 @@ static int run_line(FILE *run, uint64_t frame, uint64_t *mask, uint64_t *fill, u
     for (s = 0; right && s < sensor_count; s++)
         right = column(line + 8 + 20 * s, 20, &sensors[s]);
     if (!right || line[length - 1] != '\n' || *mask >> nodes != 0 || *fill > 255 || frame >= 100000)
-        stop("run.txt", 10, frame + 1);
+        stop("run.txt", RAGBASALT_REFUSED_RUN_LINE, frame + 1);
     return 1;
 }
 
@@ -84,21 +84,21 @@ static void power_on(void)
 {
     size_t i;
     for (i = 0; i < nodes; i++)
-        done("power_on", ragbasalt_power_on(&plan, &board[i].memory));
+        done("power_on", ragbasalt_node_power_on(&plan, &board[i].memory));
 }
 
 /* A frame of a good node up to its broadcast. */
 static void compute(size_t i, const uint64_t *sensors)
 {
-    done("compute", ragbasalt_compute(&plan, &board[i].memory, sensors, sensor_count));
-    done("message", ragbasalt_message(&plan, &board[i].memory, board[i].message, message_bytes));
+    done("compute", ragbasalt_node_compute(&plan, &board[i].memory, sensors, sensor_count));
+    done("message", ragbasalt_node_message(&plan, &board[i].memory, board[i].message, message_bytes));
 }
 
 /* What a good node does with its mailbox. */
 static void close_frame(size_t i)
 {
-    done("vote", ragbasalt_vote(&plan, &board[i].memory, board[i].mailbox, nodes * message_bytes, &board[i].agreement));
-    done("setpoints", ragbasalt_setpoints(&plan, &board[i].memory, board[i].setpoints, actuators));
+    done("vote", ragbasalt_node_vote(&plan, &board[i].memory, board[i].mailbox, nodes * message_bytes, &board[i].agreement));
+    done("setpoints", ragbasalt_node_setpoints(&plan, &board[i].memory, board[i].setpoints, actuators));
 }
 
 /* A bad node: its message to everybody, its setpoints, and its memory after the frame are bytes `fill`. */
@@ -107,7 +107,7 @@ static void spoil(size_t i, uint64_t fill)
     uint64_t pattern = fill * UINT64_C(0x0101010101010101);
     size_t c, a;
     memset(board[i].message, (int)fill, message_bytes);
-    board[i].memory.counter = (uint16_t)pattern;
+    board[i].memory.counter = pattern & 65535;
     for (c = 0; c < cells; c++)
         board[i].memory.cells[c] = pattern;
     for (a = 0; a < actuators; a++)
@@ -152,21 +152,17 @@ static size_t agreement(uint64_t mask)
 
 int main(void)
 {
-    static uint8_t text[RAGBASALT_TEXT_BYTES + 1];
-    uint64_t frame, mask, fill, sensors[RAGBASALT_SENSORS];
+    static uint8_t text[RAGBASALT_MAX_TEXT_BYTES + 1];
+    uint64_t frame, mask, fill, sensors[RAGBASALT_MAX_SENSORS];
     size_t i, a;
     FILE *run;
 
-    if (ragbasalt_version() != RAGBASALT_VERSION) {
-        fprintf(stderr, "board: the header is not that of the archive\n");
-        return EXIT_FAILURE;
-    }
-    done("plan.txt", ragbasalt_read(text, contents("plan.txt", text, sizeof text), &plan));
-    nodes = (size_t)plan.words[RAGBASALT_AT_NODES];
-    cells = (size_t)plan.words[RAGBASALT_AT_CELLS];
-    sensor_count = (size_t)plan.words[RAGBASALT_AT_SENSORS];
-    actuators = (size_t)plan.words[RAGBASALT_AT_ACTUATORS];
-    message_bytes = ragbasalt_message_length(&plan);
+    done("plan.txt", ragbasalt_plan_read(text, contents("plan.txt", text, sizeof text), &plan));
+    nodes = (size_t)plan.nodes;
+    cells = (size_t)plan.cells;
+    sensor_count = (size_t)plan.sensors;
+    actuators = (size_t)plan.actuators;
+    message_bytes = ragbasalt_message_size(&plan);
     power_on();
 
     run = fopen("run.txt", "rb");

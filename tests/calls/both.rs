@@ -1,8 +1,8 @@
 //! Each exported call made on the library and on the reference, and compared: the answer, every
-//! slice that was lent, and the guards around it.
+//! buffer that was lent, and the guards around it.
 
 use super::calls;
-use super::lend::{Element, Lent, Slice, GUARD};
+use super::lend::{Element, Lent, Number, Slice, GUARD};
 use super::library::*;
 use super::plan::Plan;
 use super::random::Random;
@@ -20,44 +20,8 @@ impl Words {
     }
 }
 
-/// A memory as words: 32 patterns where nothing is wrong.
-#[derive(Clone, PartialEq, Debug)]
-pub struct Memory {
-    pub counter: u16,
-    pub cells: Vec<u64>,
-}
-
-/// A system as words.
-#[derive(Clone, PartialEq, Debug)]
-pub struct Rows {
-    pub counters: Vec<u16>,
-    pub cells: Vec<u64>,
-    pub good: Vec<u16>,
-}
-
-/// The calls, each with the answers that it can give; a size counts as 7 where it is 0.
-pub const CALLS: [(&str, &[usize]); 20] = [
-    ("version", &[0]),
-    ("plan_read", &[0, 1, 2, 3, 4, 5, 6, 8]),
-    ("plan_write", &[0, 7, 8]),
-    ("plan_check", &[0, 7]),
-    ("plan_period", &[0, 7]),
-    ("plan_histories", &[0, 7, 8, 11]),
-    ("message_size", &[0, 7]),
-    ("mailbox_size", &[0, 7]),
-    ("faults_size", &[0, 7]),
-    ("text_size", &[0, 7]),
-    ("node_power_on", &[0, 7, 8]),
-    ("node_compute", &[0, 7, 8]),
-    ("node_message", &[0, 7, 8]),
-    ("node_vote", &[0, 7, 8]),
-    ("node_setpoints", &[0, 7, 8]),
-    ("single_frame", &[0, 7, 8]),
-    ("system_power_on", &[0, 7, 8]),
-    ("system_frame", &[0, 7, 8, 9]),
-    ("system_working", &[0, 7, 8, 9]),
-    ("system_equal", &[0, 7, 8, 9]),
-];
+/// The words of a memory, a system or a run.
+pub type Record = Vec<u64>;
 
 /// The numbers of answers, 0 to 11.
 pub const NUMBERS: usize = 12;
@@ -79,6 +43,8 @@ pub struct Totals {
     /// Lists of histories by nodes and length; of length 4 and three nodes or more, by R.
     pub histories: [[u64; 4]; 5],
     pub periods: [u64; 3],
+    /// Runs listed to their end, to a refused line, and ended by a refused plan.
+    pub listings: [u64; 3],
 }
 
 /// The report of a difference.
@@ -87,8 +53,149 @@ pub type Compared<T> = Result<T, String>;
 pub struct Both<'a> {
     pub r: &'a Random,
     pub totals: &'a mut Totals,
-    /// Slices are lent without guards, each in a block of memory of just its length.
+    /// Buffers are lent without guards, each in a block of memory of just its length.
     pub bare: bool,
+}
+
+// The parameters of a call, by kind: `plan` is a plan's words; `given` and `record` are the words of
+// a memory, a system or a run, to be read or to be changed, `record` also those for a new plan;
+// `slice` and `place` are buffers with a length, to be read or to be written; `number` goes by
+// value; `gives` is a number that the call gives.
+
+macro_rules! parameter {
+    (plan) => { &Words };
+    (given) => { &[u64] };
+    (record) => { &mut Record };
+    (slice $element:ty) => { &[$element] };
+    (place $element:ty) => { &mut Vec<$element> };
+    (number $type:ty) => { $type };
+    (gives) => { &mut usize };
+}
+
+/// What the library is lent, and the parameter itself.
+macro_rules! lend {
+    ($both:ident plan $x:ident) => {
+        ($both.lend(stringify!($x), &$x.words), $x)
+    };
+    ($both:ident number $x:ident) => {
+        (Number(stringify!($x), $x as u64), $x)
+    };
+    ($both:ident gives $x:ident) => {
+        ($both.lend(stringify!($x), &[*$x]), $x)
+    };
+    ($both:ident $kind:ident $x:ident) => {
+        ($both.lend(stringify!($x), &$x[..]), $x)
+    };
+}
+
+/// The call on the library: what has a length is handed over with it.
+macro_rules! library {
+    ($function:ident [$($done:expr),*]) => { unsafe { $function($($done),*) } };
+    ($function:ident [$($done:expr),*] number $x:ident $($rest:tt)*) => {
+        library!($function [$($done,)* $x.1] $($rest)*)
+    };
+    ($function:ident [$($done:expr),*] slice $x:ident $($rest:tt)*) => {
+        library!($function [$($done,)* $x.0.at(), $x.0.len()] $($rest)*)
+    };
+    ($function:ident [$($done:expr),*] place $x:ident $($rest:tt)*) => {
+        library!($function [$($done,)* $x.0.at(), $x.0.len()] $($rest)*)
+    };
+    ($function:ident [$($done:expr),*] $kind:ident $x:ident $($rest:tt)*) => {
+        library!($function [$($done,)* $x.0.at()] $($rest)*)
+    };
+}
+
+/// What the reference is handed.
+macro_rules! reference {
+    (plan $x:ident) => {
+        $x.1.plan.as_ref()
+    };
+    (record $x:ident) => {
+        &mut $x.0.after
+    };
+    (place $x:ident) => {
+        &mut $x.0.after
+    };
+    (gives $x:ident) => {
+        &mut $x.0.after[0]
+    };
+    ($kind:ident $x:ident) => {
+        $x.1
+    };
+}
+
+/// What the caller has after the call.
+macro_rules! leave {
+    (record $x:ident) => {
+        *$x.1 = $x.0.after
+    };
+    (place $x:ident) => {
+        *$x.1 = $x.0.after
+    };
+    (gives $x:ident) => {
+        *$x.1 = $x.0.after[0]
+    };
+    ($kind:ident $x:ident) => {};
+}
+
+macro_rules! calls {
+    ($($name:ident $function:ident $answers:tt
+        ($($kind:ident $x:ident $(: $type:ty)?),*);)*) => {
+        /// The calls, each with the answers that it can give; a size counts as 7 where it is 0.
+        pub const CALLS: &[(&str, &[usize])] = &[$((stringify!($name), &$answers)),*];
+
+        #[allow(unused_mut, clippy::too_many_arguments)]
+        impl Both<'_> {
+            $(
+                pub fn $name(&mut self, $($x: parameter!($kind $($type)?)),*) -> Compared<u64> {
+                    $(let mut $x = lend!(self $kind $x);)*
+                    let got = library!($function [] $($kind $x)*) as u64;
+                    let expected = calls::$name($(reference!($kind $x)),*) as u64;
+                    self.settle(stringify!($name), got, expected, &[$(&$x.0),*])?;
+                    $(leave!($kind $x);)*
+                    Ok(expected)
+                }
+            )*
+        }
+    };
+}
+
+#[rustfmt::skip]
+calls! {
+    version ragbasalt_version_3 [0] ();
+    plan_read ragbasalt_plan_read [0, 1, 2, 3, 4, 5, 6] (slice text: u8, record plan);
+    plan_write ragbasalt_plan_write [0, 7, 8] (plan plan, place text: u8, gives count);
+    plan_check ragbasalt_plan_check [0, 7] (plan plan);
+    plan_period ragbasalt_plan_period [0, 7] (plan plan, gives period);
+    plan_histories ragbasalt_plan_histories [0, 7, 8, 11]
+        (plan plan, number frames: usize, place masks: u8, gives count);
+    message_size ragbasalt_message_size [0, 7] (plan plan);
+    mailbox_size ragbasalt_mailbox_size [0, 7] (plan plan);
+    faults_size ragbasalt_faults_size [0, 7] (plan plan);
+    text_size ragbasalt_text_size [0, 7] (plan plan);
+    node_power_on ragbasalt_node_power_on [0, 7] (plan plan, record memory);
+    node_compute ragbasalt_node_compute [0, 7, 8] (plan plan, record memory, slice sensors: u64);
+    node_message ragbasalt_node_message [0, 7, 8] (plan plan, given memory, place message: u8);
+    node_vote ragbasalt_node_vote [0, 7, 8]
+        (plan plan, record memory, slice mailbox: u8, gives agreement);
+    node_setpoints ragbasalt_node_setpoints [0, 7, 8]
+        (plan plan, given memory, place setpoints: u64);
+    single_frame ragbasalt_single_frame [0, 7, 8]
+        (plan plan, record memory, slice sensors: u64, place setpoints: u64);
+    system_power_on ragbasalt_system_power_on [0, 7] (plan plan, record system);
+    system_frame ragbasalt_system_frame [0, 7, 8, 9]
+        (plan plan, record system, slice sensors: u64, number mask: u64, slice faults: u8,
+         place setpoints: u64, gives agreement);
+    system_working ragbasalt_system_working [0, 7, 9]
+        (plan plan, given system, number mask: u64, gives count);
+    system_equal ragbasalt_system_equal [0, 7, 9]
+        (plan plan, given system, given memory, gives count);
+    listing_start ragbasalt_listing_start [0, 1, 2, 3, 4, 5, 6]
+        (slice text: u8, record plan, record run);
+    listing_next ragbasalt_listing_next [0, 7, 8, 9, 10]
+        (plan plan, record run, slice rest: u8, place line: u8, gives count);
+    listing_refusal ragbasalt_listing_refusal [0, 8]
+        (number answer: u64, place line: u8, gives count);
 }
 
 impl Both<'_> {
@@ -99,20 +206,8 @@ impl Both<'_> {
         }
     }
 
-    fn lend_rows(&self, rows: &Rows) -> (Lent<u16>, Lent<u64>, Lent<u16>) {
-        let counters = self.lend("counters", &rows.counters);
-        (counters, self.lend("cells", &rows.cells), self.lend("good", &rows.good))
-    }
-
-    /// Counts a call and compares it; gives the answer.
-    fn settle(
-        &mut self,
-        name: &str,
-        numbers: &str,
-        got: u64,
-        expected: u64,
-        slices: &[&dyn Slice],
-    ) -> Compared<u64> {
+    /// Counts a call and compares it.
+    fn settle(&mut self, name: &str, got: u64, expected: u64, lent: &[&dyn Slice]) -> Compared<()> {
         let call = CALLS.iter().position(|(call, _)| *call == name).expect("a call of the table");
         let is_size = name.ends_with("_size");
         let number = match expected {
@@ -130,350 +225,57 @@ impl Both<'_> {
             });
             report.push(format!("answer: expected {e}, got {g}"));
         }
-        report.extend(slices.iter().filter_map(|slice| slice.difference()));
+        report.extend(lent.iter().filter_map(|slice| slice.difference()));
         if report.is_empty() {
-            return Ok(expected);
+            return Ok(());
         }
-        let lent = slices.iter().map(|slice| slice.lent());
-        let call = format!("call: ragbasalt_{name}, lent with:");
-        let numbers = (!numbers.is_empty()).then(|| numbers.to_string());
-        let lines = std::iter::once(call).chain(numbers).chain(lent);
-        Err(report.into_iter().chain(lines).collect::<Vec<_>>().join("\n") + "\n")
+        report.push(format!("call: ragbasalt_{name}, lent with:"));
+        report.extend(lent.iter().map(|slice| slice.lent()));
+        Err(report.join("\n") + "\n")
     }
 
-    /// Counts a frame of one or two nodes.
-    fn count_small(&mut self, nodes: usize, mask: u64, agreement: usize) {
-        match (nodes, mask, agreement) {
-            (1, 1, _) => self.totals.small[0] += 1,
-            (2, 1 | 2, _) => self.totals.small[1] += 1,
-            (2, 0, 0) => self.totals.small[2] += 1,
-            _ => {}
-        }
-    }
-
-    pub fn version(&mut self) -> Compared<u64> {
-        let got = unsafe { ragbasalt_version() };
-        self.settle("version", "", got, 2, &[])
-    }
-
-    pub fn plan_read(&mut self, text: &[u8], words: &mut Vec<u64>) -> Compared<u64> {
-        let mut t = self.lend("text", text);
-        let mut p = self.lend("plan", words);
-        let got = unsafe { ragbasalt_plan_read(t.at(), t.len(), p.at(), p.len()) };
-        let expected = calls::plan_read(text, &mut p.after);
-        self.settle("plan_read", "", got, expected, &[&t, &p])?;
-        *words = p.after;
-        Ok(expected)
-    }
-
-    pub fn plan_write(&mut self, plan: &Words, buffer: &[u8]) -> Compared<u64> {
-        let mut p = self.lend("plan", &plan.words);
-        let mut t = self.lend("text", buffer);
-        let mut c = self.lend("count", &[self.r.below(9)]);
-        let got = unsafe { ragbasalt_plan_write(p.at(), p.len(), t.at(), t.len(), c.at()) };
-        let expected = calls::plan_write(plan.plan.as_ref(), &mut t.after, &mut c.after[0]);
-        self.settle("plan_write", "", got, expected, &[&p, &t, &c])
-    }
-
-    pub fn plan_check(&mut self, plan: &Words) -> Compared<u64> {
-        let mut p = self.lend("plan", &plan.words);
-        let got = unsafe { ragbasalt_plan_check(p.at(), p.len()) };
-        self.settle("plan_check", "", got, calls::plan_check(plan.plan.as_ref()), &[&p])
-    }
-
-    pub fn plan_period(&mut self, plan: &Words) -> Compared<u64> {
-        let mut p = self.lend("plan", &plan.words);
-        let mut c = self.lend("period", &[self.r.below(9)]);
-        let got = unsafe { ragbasalt_plan_period(p.at(), p.len(), c.at()) };
-        let expected = calls::plan_period(plan.plan.as_ref(), &mut c.after[0]);
-        self.settle("plan_period", "", got, expected, &[&p, &c])
-    }
-
-    pub fn plan_histories(&mut self, plan: &Words, length: usize, masks: &[u8]) -> Compared<u64> {
-        let mut p = self.lend("plan", &plan.words);
-        let mut m = self.lend("masks", masks);
-        let mut c = self.lend("count", &[self.r.below(9)]);
-        let got =
-            unsafe { ragbasalt_plan_histories(p.at(), p.len(), length, m.at(), m.len(), c.at()) };
-        let plan = plan.plan.as_ref();
-        let expected = calls::plan_histories(plan, length, &mut m.after, &mut c.after[0]);
-        let numbers = format!("length {length}");
-        self.settle("plan_histories", &numbers, got, expected, &[&p, &m, &c])?;
-        if let (0, Some(plan)) = (expected, plan) {
-            self.totals.histories[plan.nodes - 1][length - 1] += 1;
-            if length == 4 && plan.nodes > 2 {
-                self.totals.periods[plan.period.min(3) - 1] += 1;
-            }
-        }
-        Ok(expected)
-    }
-
-    pub fn sizes(&mut self, words: &Words) -> Compared<()> {
-        let plan = words.plan.as_ref();
-        let mut p = self.lend("plan", &words.words);
-        let got = unsafe { ragbasalt_message_size(p.at(), p.len()) } as u64;
-        self.settle("message_size", "", got, calls::message_size(plan) as u64, &[&p])?;
-        let got = unsafe { ragbasalt_mailbox_size(p.at(), p.len()) } as u64;
-        self.settle("mailbox_size", "", got, calls::mailbox_size(plan) as u64, &[&p])?;
-        let got = unsafe { ragbasalt_faults_size(p.at(), p.len()) } as u64;
-        self.settle("faults_size", "", got, calls::faults_size(plan) as u64, &[&p])?;
-        let got = unsafe { ragbasalt_text_size(p.at(), p.len()) } as u64;
-        self.settle("text_size", "", got, calls::text_size(plan) as u64, &[&p])?;
+    pub fn sizes(&mut self, plan: &Words) -> Compared<()> {
+        self.message_size(plan)?;
+        self.mailbox_size(plan)?;
+        self.faults_size(plan)?;
+        self.text_size(plan)?;
         Ok(())
     }
 
-    pub fn node_power_on(&mut self, plan: &Words, memory: &mut Memory) -> Compared<u64> {
-        let mut p = self.lend("plan", &plan.words);
-        let mut n = self.lend("counter", &[memory.counter]);
-        let mut c = self.lend("cells", &memory.cells);
-        let got = unsafe { ragbasalt_node_power_on(p.at(), p.len(), n.at(), c.at(), c.len()) };
-        let expected = calls::node_power_on(plan.plan.as_ref(), &mut n.after[0], &mut c.after);
-        self.settle("node_power_on", "", got, expected, &[&p, &n, &c])?;
-        *memory = Memory { counter: n.after[0], cells: c.after };
-        Ok(expected)
+    /// The histories of a plan, counted by nodes and length.
+    pub fn histories(&mut self, words: &Words, frames: usize, mut masks: Vec<u8>) -> Compared<()> {
+        let mut count = self.r.below(9);
+        let answer = self.plan_histories(words, frames, &mut masks, &mut count)?;
+        if let (0, Some(plan)) = (answer, &words.plan) {
+            self.totals.histories[plan.nodes - 1][frames - 1] += 1;
+            if frames == 4 && plan.nodes > 2 {
+                self.totals.periods[plan.period.min(3) - 1] += 1;
+            }
+        }
+        Ok(())
     }
 
-    pub fn node_compute(
-        &mut self,
-        plan: &Words,
-        memory: &mut Memory,
-        sensors: &[u64],
-    ) -> Compared<u64> {
-        let mut p = self.lend("plan", &plan.words);
-        let mut n = self.lend("counter", &[memory.counter]);
-        let mut c = self.lend("cells", &memory.cells);
-        let mut s = self.lend("sensors", sensors);
-        let got = unsafe {
-            ragbasalt_node_compute(p.at(), p.len(), n.at(), c.at(), c.len(), s.at(), s.len())
-        };
-        let plan = plan.plan.as_ref();
-        let expected = calls::node_compute(plan, &mut n.after[0], &mut c.after, sensors);
-        self.settle("node_compute", "", got, expected, &[&p, &n, &c, &s])?;
-        *memory = Memory { counter: n.after[0], cells: c.after };
-        Ok(expected)
-    }
-
-    pub fn node_message(
-        &mut self,
-        plan: &Words,
-        memory: &Memory,
-        message: &mut Vec<u8>,
-    ) -> Compared<u64> {
-        let mut p = self.lend("plan", &plan.words);
-        let mut c = self.lend("cells", &memory.cells);
-        let mut m = self.lend("message", message);
-        let own = memory.counter;
-        let got = unsafe {
-            ragbasalt_node_message(p.at(), p.len(), own, c.at(), c.len(), m.at(), m.len())
-        };
-        let plan = plan.plan.as_ref();
-        let expected = calls::node_message(plan, own, &memory.cells, &mut m.after);
-        self.settle("node_message", &format!("counter {own}"), got, expected, &[&p, &c, &m])?;
-        *message = m.after;
-        Ok(expected)
-    }
-
-    pub fn node_vote(
-        &mut self,
-        plan: &Words,
-        memory: &mut Memory,
-        mailbox: &[u8],
-        agreement: &mut usize,
-    ) -> Compared<u64> {
-        let mut p = self.lend("plan", &plan.words);
-        let mut n = self.lend("counter", &[memory.counter]);
-        let mut c = self.lend("cells", &memory.cells);
-        let mut m = self.lend("mailbox", mailbox);
-        let mut a = self.lend("agreement", &[*agreement]);
-        let got = unsafe {
-            ragbasalt_node_vote(p.at(), p.len(), n.at(), c.at(), c.len(), m.at(), m.len(), a.at())
-        };
-        let (counter, cells) = (&mut n.after[0], &mut c.after);
-        let plan = plan.plan.as_ref();
-        let expected = calls::node_vote(plan, counter, cells, mailbox, &mut a.after[0]);
-        self.settle("node_vote", "", got, expected, &[&p, &n, &c, &m, &a])?;
-        *memory = Memory { counter: n.after[0], cells: c.after };
-        *agreement = a.after[0];
-        Ok(expected)
-    }
-
-    pub fn node_setpoints(
-        &mut self,
-        plan: &Words,
-        memory: &Memory,
-        setpoints: &mut Vec<u64>,
-    ) -> Compared<u64> {
-        let mut p = self.lend("plan", &plan.words);
-        let mut c = self.lend("cells", &memory.cells);
-        let mut s = self.lend("setpoints", setpoints);
-        let own = memory.counter;
-        let got = unsafe {
-            ragbasalt_node_setpoints(p.at(), p.len(), own, c.at(), c.len(), s.at(), s.len())
-        };
-        let plan = plan.plan.as_ref();
-        let expected = calls::node_setpoints(plan, own, &memory.cells, &mut s.after);
-        self.settle("node_setpoints", &format!("counter {own}"), got, expected, &[&p, &c, &s])?;
-        *setpoints = s.after;
-        Ok(expected)
-    }
-
-    pub fn single_frame(
-        &mut self,
-        plan: &Words,
-        memory: &mut Memory,
-        sensors: &[u64],
-        setpoints: &mut Vec<u64>,
-    ) -> Compared<u64> {
-        let mut p = self.lend("plan", &plan.words);
-        let mut n = self.lend("counter", &[memory.counter]);
-        let mut c = self.lend("cells", &memory.cells);
-        let mut s = self.lend("sensors", sensors);
-        let mut o = self.lend("setpoints", setpoints);
-        let got = unsafe {
-            ragbasalt_single_frame(
-                p.at(),
-                p.len(),
-                n.at(),
-                c.at(),
-                c.len(),
-                s.at(),
-                s.len(),
-                o.at(),
-                o.len(),
-            )
-        };
-        let (counter, cells) = (&mut n.after[0], &mut c.after);
-        let plan = plan.plan.as_ref();
-        let expected = calls::single_frame(plan, counter, cells, sensors, &mut o.after);
-        self.settle("single_frame", "", got, expected, &[&p, &n, &c, &s, &o])?;
-        *memory = Memory { counter: n.after[0], cells: c.after };
-        *setpoints = o.after;
-        Ok(expected)
-    }
-
-    pub fn system_power_on(&mut self, plan: &Words, rows: &mut Rows) -> Compared<u64> {
-        let mut p = self.lend("plan", &plan.words);
-        let (mut n, mut c, mut g) = self.lend_rows(rows);
-        let got = unsafe {
-            ragbasalt_system_power_on(
-                p.at(),
-                p.len(),
-                n.at(),
-                n.len(),
-                c.at(),
-                c.len(),
-                g.at(),
-                g.len(),
-            )
-        };
-        let plan = plan.plan.as_ref();
-        let expected = calls::system_power_on(plan, &mut n.after, &mut c.after, &mut g.after);
-        self.settle("system_power_on", "", got, expected, &[&p, &n, &c, &g])?;
-        *rows = Rows { counters: n.after, cells: c.after, good: g.after };
-        Ok(expected)
-    }
-
+    /// A frame of a system; those of one or two nodes are counted.
     #[allow(clippy::too_many_arguments)]
-    pub fn system_frame(
+    pub fn frame(
         &mut self,
-        plan: &Words,
-        rows: &mut Rows,
+        words: &Words,
+        system: &mut Record,
         sensors: &[u64],
         mask: u64,
         faults: &[u8],
-        setpoints: &mut Vec<u64>,
+        place: &mut Vec<u64>,
         agreement: &mut usize,
     ) -> Compared<u64> {
-        let mut p = self.lend("plan", &plan.words);
-        let (mut n, mut c, mut g) = self.lend_rows(rows);
-        let mut s = self.lend("sensors", sensors);
-        let mut f = self.lend("faults", faults);
-        let mut o = self.lend("setpoints", setpoints);
-        let mut a = self.lend("agreement", &[*agreement]);
-        let got = unsafe {
-            ragbasalt_system_frame(
-                p.at(),
-                p.len(),
-                n.at(),
-                n.len(),
-                c.at(),
-                c.len(),
-                g.at(),
-                g.len(),
-                s.at(),
-                s.len(),
-                mask,
-                f.at(),
-                f.len(),
-                o.at(),
-                o.len(),
-                a.at(),
-            )
-        };
-        let expected = calls::system_frame(
-            plan.plan.as_ref(),
-            &mut n.after,
-            &mut c.after,
-            &mut g.after,
-            sensors,
-            mask,
-            faults,
-            &mut o.after,
-            &mut a.after[0],
-        );
-        let (bad, mask) = (mask, format!("mask {mask}"));
-        self.settle("system_frame", &mask, got, expected, &[&p, &n, &c, &g, &s, &f, &o, &a])?;
-        if let (0, Some(plan)) = (expected, &plan.plan) {
-            self.count_small(plan.nodes, bad, a.after[0]);
+        let answer = self.system_frame(words, system, sensors, mask, faults, place, agreement)?;
+        if let (0, Some(plan)) = (answer, &words.plan) {
+            match (plan.nodes, mask, *agreement) {
+                (1, 1, _) => self.totals.small[0] += 1,
+                (2, 1 | 2, _) => self.totals.small[1] += 1,
+                (2, 0, 0) => self.totals.small[2] += 1,
+                _ => {}
+            }
         }
-        *rows = Rows { counters: n.after, cells: c.after, good: g.after };
-        *setpoints = o.after;
-        *agreement = a.after[0];
-        Ok(expected)
-    }
-
-    pub fn system_working(&mut self, plan: &Words, good: &[u16], mask: u64) -> Compared<u64> {
-        let mut p = self.lend("plan", &plan.words);
-        let mut g = self.lend("good", good);
-        let mut k = self.lend("count", &[self.r.below(9)]);
-        let got =
-            unsafe { ragbasalt_system_working(p.at(), p.len(), g.at(), g.len(), mask, k.at()) };
-        let expected = calls::system_working(plan.plan.as_ref(), good, mask, &mut k.after[0]);
-        self.settle("system_working", &format!("mask {mask}"), got, expected, &[&p, &g, &k])
-    }
-
-    pub fn system_equal(&mut self, plan: &Words, rows: &Rows, single: &Memory) -> Compared<u64> {
-        let mut p = self.lend("plan", &plan.words);
-        let (mut n, mut c, mut g) = self.lend_rows(rows);
-        let mut s = self.lend("single", &single.cells);
-        let mut k = self.lend("count", &[self.r.below(9)]);
-        let own = single.counter;
-        let got = unsafe {
-            ragbasalt_system_equal(
-                p.at(),
-                p.len(),
-                n.at(),
-                n.len(),
-                c.at(),
-                c.len(),
-                g.at(),
-                g.len(),
-                own,
-                s.at(),
-                s.len(),
-                k.at(),
-            )
-        };
-        let expected = calls::system_equal(
-            plan.plan.as_ref(),
-            &rows.counters,
-            &rows.cells,
-            &rows.good,
-            own,
-            &single.cells,
-            &mut k.after[0],
-        );
-        let own = format!("counter {own}");
-        self.settle("system_equal", &own, got, expected, &[&p, &n, &c, &g, &s, &k])
+        Ok(answer)
     }
 }

@@ -1,16 +1,18 @@
 //! The cases: the calls of a case follow from its seed alone.
 
-use super::both::{Both, Compared, Memory, Rows, Words};
-use super::calls::{CELLS, NODES, PLAN_WORDS};
+use super::both::{Both, Compared, Record, Words};
+use super::calls::{
+    listing_line_length, GOOD_AT, MEMORY_WORDS, PLAN_WORDS, RUN_WORDS, SYSTEM_WORDS,
+};
 use super::damage;
-use super::draw::{accepted, damaged, plan_rows, wrong_length, Draw};
+use super::draw::{accepted, damaged, plan_rows, stray, wrong_length, Draw};
 use super::frame::{message_length, plane};
 use super::generate::{never, plan_text, quick, run, Masks, OUTSIDE};
-use super::listing::run_line_length;
+use super::listing::{listing, run_line_length};
 use super::plan::{number, Plan, Row};
 use super::random::{strange, Random, Values};
 
-pub const CLASSES: [&str; 11] = [
+pub const CLASSES: [&str; 13] = [
     "plan texts",
     "plan texts",
     "damaged words",
@@ -22,6 +24,8 @@ pub const CLASSES: [&str; 11] = [
     "list outside the premise",
     "boards",
     "histories",
+    "any run",
+    "whole listing",
 ];
 
 pub fn class_of(seed: u64) -> &'static str {
@@ -44,7 +48,9 @@ pub fn case(seed: u64, both: &mut Both) -> Compared<()> {
         "list inside the premise" => list(both, values, &rows, Masks::Premise),
         "list outside the premise" => list(both, values, &rows, r.pick(&OUTSIDE)),
         "boards" => boards(both, values, &rows),
-        _ => histories(both, values, &rows),
+        "histories" => histories(both, values, &rows),
+        "any run" => any_run(both, values, &rows),
+        _ => whole_listing(both, values, &rows),
     }
 }
 
@@ -72,12 +78,16 @@ fn text(r: &Random, values: &Values, rows: &[Row]) -> Vec<u8> {
     }
 }
 
+/// A place for words, with something in it.
+fn any_words(r: &Random, count: usize) -> Record {
+    (0..count).map(|_| r.pick(&[0, strange(r)])).collect()
+}
+
 fn texts(both: &mut Both, values: &Values, rows: &[Row]) -> Compared<()> {
     let r = both.r;
     for _ in 0..12 {
         let text = text(r, values, rows);
-        let length = if r.one_in(8) { wrong_length(r, PLAN_WORDS) } else { PLAN_WORDS };
-        let mut words: Vec<_> = (0..length).map(|_| r.pick(&[0, strange(r)])).collect();
+        let mut words = any_words(r, PLAN_WORDS);
         if both.plan_read(&text, &mut words)? == 0 {
             read_plan(both, values, words)?;
         }
@@ -93,20 +103,21 @@ fn read_plan(both: &mut Both, values: &Values, words: Vec<u64>) -> Compared<()> 
     };
     let draw = Draw { r: both.r, values, plan, wrong: 0 };
     both.plan_check(&words)?;
-    both.plan_period(&words)?;
+    both.plan_period(&words, &mut draw.number())?;
     both.sizes(&words)?;
     for _ in 0..3 {
-        both.plan_write(&words, &draw.text(&words))?;
+        both.plan_write(&words, &mut draw.text(&words), &mut draw.number())?;
     }
     Ok(())
 }
 
 // ---- single calls
 
-/// The memory and the system that calls go on with.
+/// The records that calls go on with.
 struct State {
-    memory: Memory,
-    rows: Rows,
+    memory: Record,
+    system: Record,
+    run: Record,
 }
 
 #[derive(Clone, Copy)]
@@ -126,6 +137,8 @@ enum Call {
     Frame,
     Working,
     Equal,
+    Next,
+    Refusal,
 }
 
 use Call::*;
@@ -133,10 +146,11 @@ use Call::*;
 const NODE: [Call; 9] =
     [PowerOn, Compute, Compute, Message, Message, Vote, Vote, Setpoints, Single];
 const SYSTEM: [Call; 6] = [Start, Frame, Frame, Frame, Working, Equal];
+const RUN: [Call; 6] = [Next, Next, Next, Next, Next, Refusal];
 #[rustfmt::skip]
-const ALL: [Call; 15] = [
+const ALL: [Call; 17] = [
     Check, Period, Sizes, Write, Histories, PowerOn, Compute, Message, Vote, Setpoints, Single,
-    Start, Frame, Working, Equal,
+    Start, Frame, Working, Equal, Next, Refusal,
 ];
 
 /// Makes one call with drawn arguments.
@@ -146,33 +160,39 @@ fn make(both: &mut Both, draw: &Draw, plan: &Words, state: &mut State, call: Cal
         state.memory = draw.memory();
     }
     if r.one_in(4) {
-        state.rows = draw.rows(&state.memory);
+        state.system = draw.system(&state.memory);
     }
-    let State { memory, rows } = state;
+    if r.one_in(3) {
+        state.run = draw.run(&state.memory);
+    }
+    let State { memory, system, run } = state;
+    let number = &mut draw.number();
     match call {
         Check => both.plan_check(plan)?,
-        Period => both.plan_period(plan)?,
+        Period => both.plan_period(plan, number)?,
         Sizes => both.sizes(plan).map(|_| 0)?,
-        Write => both.plan_write(plan, &draw.text(plan))?,
+        Write => both.plan_write(plan, &mut draw.text(plan), number)?,
         Histories => {
             let length = draw.frames();
-            both.plan_histories(plan, length, &draw.masks(plan, length))?
+            both.histories(plan, length, draw.masks(plan, length)).map(|_| 0)?
         }
         PowerOn => both.node_power_on(plan, memory)?,
         Compute => both.node_compute(plan, memory, &draw.sensors())?,
         Message => both.node_message(plan, memory, &mut draw.message())?,
-        Vote => both.node_vote(plan, memory, &draw.mailbox(memory), &mut draw.number())?,
+        Vote => both.node_vote(plan, memory, &draw.mailbox(memory), number)?,
         Setpoints => both.node_setpoints(plan, memory, &mut draw.setpoints())?,
         Single => both.single_frame(plan, memory, &draw.sensors(), &mut draw.setpoints())?,
-        Start => both.system_power_on(plan, rows)?,
+        Start => both.system_power_on(plan, system)?,
         Frame => {
             let sensors = draw.sensors();
-            let faults = draw.faults(rows, &sensors);
-            let (place, agreement) = (&mut draw.setpoints(), &mut draw.number());
-            both.system_frame(plan, rows, &sensors, draw.mask(), &faults, place, agreement)?
+            let faults = draw.faults(system, &sensors);
+            let place = &mut draw.setpoints();
+            both.frame(plan, system, &sensors, draw.mask(), &faults, place, number)?
         }
-        Working => both.system_working(plan, &rows.good, draw.mask())?,
-        Equal => both.system_equal(plan, rows, memory)?,
+        Working => both.system_working(plan, system, draw.mask(), number)?,
+        Equal => both.system_equal(plan, system, memory, number)?,
+        Next => both.listing_next(plan, run, &draw.rest(), &mut draw.line(), number)?,
+        Refusal => both.listing_refusal(draw.answer(), &mut draw.refusal(), number)?,
     };
     Ok(())
 }
@@ -185,8 +205,8 @@ fn make_any(
     count: usize,
 ) -> Compared<()> {
     let memory = draw.memory();
-    let rows = draw.rows(&memory);
-    let mut state = State { memory, rows };
+    let (system, run) = (draw.system(&memory), draw.run(&memory));
+    let mut state = State { memory, system, run };
     for _ in 0..count {
         make(both, draw, plan, &mut state, draw.r.pick(calls))?;
     }
@@ -219,6 +239,12 @@ fn system(both: &mut Both, values: &Values, rows: &[Row]) -> Compared<()> {
     make_any(both, &draw, &words, &SYSTEM, 50)
 }
 
+fn any_run(both: &mut Both, values: &Values, rows: &[Row]) -> Compared<()> {
+    let (plan, words) = accepted(rows);
+    let draw = Draw { r: both.r, values, plan: &plan, wrong: both.r.pick(&[0, 0, 20, 6]) };
+    make_any(both, &draw, &words, &RUN, 40)
+}
+
 /// Histories of a plan, mostly of one with a short period: longer ones give the same lists.
 fn histories(both: &mut Both, values: &Values, rows: &[Row]) -> Compared<()> {
     let r = both.r;
@@ -227,7 +253,7 @@ fn histories(both: &mut Both, values: &Values, rows: &[Row]) -> Compared<()> {
     let draw = Draw { r, values, plan: &plan, wrong: 0 };
     for _ in 0..if plan.nodes > 5 { 8 } else { 40 } {
         let length = draw.frames();
-        both.plan_histories(&words, length, &draw.masks(&words, length))?;
+        both.histories(&words, length, draw.masks(&words, length))?;
     }
     Ok(())
 }
@@ -282,14 +308,9 @@ impl Premise<'_> {
     }
 }
 
-/// A system's node as a memory.
-fn memory_in(rows: &Rows, node: usize) -> Memory {
-    let cells = rows.cells[CELLS * node..CELLS * (node + 1)].to_vec();
-    Memory { counter: rows.counters[node], cells }
-}
-
-fn zero_rows() -> Rows {
-    Rows { counters: vec![0; NODES], cells: vec![0; NODES * CELLS], good: vec![0; NODES] }
+/// A node's memory in a system.
+fn memory_in(system: &[u64], node: usize) -> &[u64] {
+    &system[MEMORY_WORDS * node..MEMORY_WORDS * (node + 1)]
 }
 
 fn list(both: &mut Both, values: &Values, rows: &[Row], masks: Masks) -> Compared<()> {
@@ -297,28 +318,31 @@ fn list(both: &mut Both, values: &Values, rows: &[Row], masks: Masks) -> Compare
     let (plan, words) = accepted(rows);
     let right = Draw { r, values, plan: &plan, wrong: 0 };
     let mut single = right.memory();
-    let mut rows = right.rows(&single);
+    let mut system = right.system(&single);
     both.node_power_on(&words, &mut single)?;
-    both.system_power_on(&words, &mut rows)?;
+    both.system_power_on(&words, &mut system)?;
     let mut premise = Premise { plan: &plan, masks: Vec::new(), held: true };
     for (mask, sensors) in frames(r, &plan, values, masks) {
-        let faults = right.faults(&rows, &sensors);
+        let faults = right.faults(&system, &sensors);
         while r.one_in(4) {
-            refused_frame(both, &right, &words, &mut rows, &sensors, mask, &faults)?;
+            refused_frame(both, &right, &words, &system, &sensors, mask, &faults)?;
         }
-        both.system_working(&words, &rows.good, mask)?;
+        if r.one_in(3) {
+            stray(r, &plan, &mut system);
+        }
+        both.system_working(&words, &system, mask, &mut right.number())?;
         let (mut place, mut expected) = (right.setpoints(), right.setpoints());
         let agreement = &mut right.number();
-        both.system_frame(&words, &mut rows, &sensors, mask, &faults, &mut place, agreement)?;
+        both.frame(&words, &mut system, &sensors, mask, &faults, &mut place, agreement)?;
         both.single_frame(&words, &mut single, &sensors, &mut expected)?;
-        both.system_equal(&words, &rows, &single)?;
+        both.system_equal(&words, &system, &single, &mut right.number())?;
         premise.frame(mask);
         match premise.held {
             true => both.totals.inside += 1,
             false => both.totals.outside += 1,
         }
         if premise.held {
-            demand_3(both, &premise, &rows, &single, &place, &expected)?;
+            demand_3(both, &premise, &system, &single, &place, &expected)?;
             premise.agree(*agreement)?;
         }
     }
@@ -330,8 +354,8 @@ fn list(both: &mut Both, values: &Values, rows: &[Row], masks: Masks) -> Compare
 fn demand_3(
     both: &mut Both,
     premise: &Premise,
-    rows: &Rows,
-    single: &Memory,
+    system: &[u64],
+    single: &[u64],
     place: &[u64],
     expected: &[u64],
 ) -> Compared<()> {
@@ -343,9 +367,9 @@ fn demand_3(
     }
     for node in premise.recovered() {
         both.totals.recovered += 1;
-        let memory = memory_in(rows, node);
-        let cells = premise.plan.cells;
-        if memory.counter != single.counter || memory.cells[..cells] != single.cells[..cells] {
+        let memory = memory_in(system, node);
+        let words = 1 + premise.plan.cells;
+        if memory[..words] != single[..words] {
             return Err(format!(
                 "frame {frame} of the list: node {node} {memory:?}, the single controller {single:?}\n"
             ));
@@ -360,37 +384,144 @@ fn refused_frame(
     both: &mut Both,
     draw: &Draw,
     words: &Words,
-    rows: &mut Rows,
+    system: &[u64],
     sensors: &[u64],
     mask: u64,
     faults: &[u8],
 ) -> Compared<()> {
     let (r, plan) = (draw.r, draw.plan);
     let (mut words, mut mask) = (words.clone(), mask);
-    let (mut given, mut sensors) = (rows.clone(), sensors.to_vec());
+    let (mut given, mut sensors) = (system.to_vec(), sensors.to_vec());
     let (mut faults, mut place) = (faults.to_vec(), draw.setpoints());
-    match r.below(9) {
+    let good = GOOD_AT + r.below(plan.nodes);
+    match r.below(8) {
         0 | 1 => {
             while words.plan.is_some() {
                 words = damaged(r, plan, &words.words);
             }
         }
         2 => mask |= 1 << r.between(plan.nodes, 63),
-        3 => given.good[r.below(plan.nodes)] = plan.period as u16 + 1,
-        4 => sensors.resize(wrong_length(r, plan.sensors), 0),
-        5 => place.resize(wrong_length(r, plan.actuators), 0),
-        6 => faults.resize(wrong_length(r, faults.len()), 0),
-        7 => given.counters.resize(wrong_length(r, NODES), 0),
-        _ => given.good.resize(wrong_length(r, NODES), u16::MAX),
+        3 => given[good] = plan.period as u64 + 1,
+        4 => given[good] |= 1 << r.between(16, 63),
+        5 => sensors.resize(wrong_length(r, plan.sensors), 0),
+        6 => place.resize(wrong_length(r, plan.actuators), 0),
+        _ => faults.resize(wrong_length(r, faults.len()), 0),
     }
     let (before, agreement) = (given.clone(), &mut draw.number());
-    let answer =
-        both.system_frame(&words, &mut given, &sensors, mask, &faults, &mut place, agreement)?;
+    let answer = both.frame(&words, &mut given, &sensors, mask, &faults, &mut place, agreement)?;
     // Half of an odd length may be the right one.
     if answer != 0 && before != given {
         return Err(String::from("a refused frame changed the record\n"));
     }
     Ok(())
+}
+
+// ---- whole listings
+
+/// A plan text and a run text, damaged or not, listed call by call: the lines and the refusal's are
+/// the listing of the run program.
+fn whole_listing(both: &mut Both, values: &Values, rows: &[Row]) -> Compared<()> {
+    let r = both.r;
+    for _ in 0..8 {
+        let (mut words, mut run) = (any_words(r, PLAN_WORDS), any_words(r, RUN_WORDS));
+        both.listing_start(&text(r, values, rows), &mut words, &mut run)?;
+    }
+    let plan = if r.one_in(3) { text(r, values, rows) } else { plan_text(rows) };
+    let (accepted, _) = accepted(rows);
+    let masks = r.pick(&[Masks::Premise, Masks::Any, Masks::Stretches]);
+    let mut lines = run(r, &accepted, values, masks, r.between(0, 25));
+    if r.one_in(2) && !lines.is_empty() {
+        damage::run(r, &mut lines, accepted.nodes, accepted.sensors, r.below(18));
+    }
+    let mut out = Vec::new();
+    let last = listed(both, values, &plan, &lines, &mut out)?;
+    let (mut place, mut count) = (vec![r.next() as u8; 13 + r.below(9)], r.below(9));
+    both.listing_refusal(last, &mut place, &mut count)?;
+    out.extend_from_slice(&place[..count]);
+    both.totals.listings[match last % 256 {
+        0 => 0,
+        10 => 1,
+        _ => 2,
+    }] += 1;
+    let whole = listing(&plan, &lines).bytes;
+    match out == whole {
+        true => Ok(()),
+        false => Err(format!(
+            "the calls list\n{}the run program's listing is\n{}",
+            String::from_utf8_lossy(&out),
+            String::from_utf8_lossy(&whole)
+        )),
+    }
+}
+
+/// Lists a run to its end or to a refusal; gives the last answer.
+fn listed(
+    both: &mut Both,
+    values: &Values,
+    text: &[u8],
+    lines: &[u8],
+    out: &mut Vec<u8>,
+) -> Compared<u64> {
+    let r = both.r;
+    let (mut words, mut run) = (any_words(r, PLAN_WORDS), any_words(r, RUN_WORDS));
+    let answer = both.listing_start(text, &mut words, &mut run)?;
+    if answer != 0 {
+        return Ok(answer);
+    }
+    let words = Words::new(words);
+    let Some(plan) = &words.plan else {
+        return Err(String::from("the words of an accepted text are no plan\n"));
+    };
+    let draw = Draw { r, values, plan, wrong: 0 };
+    let mut rest = lines;
+    loop {
+        while r.one_in(5) {
+            refused_line(both, &draw, &words, &run, rest)?;
+        }
+        if r.one_in(3) {
+            stray(r, plan, &mut run[..SYSTEM_WORDS]);
+        }
+        let length = listing_line_length(plan) + r.pick(&[0, 0, 1, r.below(90)]);
+        let (mut line, mut count) = (vec![r.next() as u8; length], draw.number());
+        let answer = both.listing_next(&words, &mut run, rest, &mut line, &mut count)?;
+        if answer != 0 || rest.is_empty() {
+            return Ok(answer);
+        }
+        out.extend_from_slice(&line[..count]);
+        rest = &rest[run_line_length(plan)..];
+    }
+}
+
+/// A call for the next line that has one thing wrong: the plan, a good count, the place, the frame
+/// number, or the line.
+fn refused_line(
+    both: &mut Both,
+    draw: &Draw,
+    words: &Words,
+    run: &[u64],
+    rest: &[u8],
+) -> Compared<()> {
+    let (r, plan) = (draw.r, draw.plan);
+    let (mut words, mut given, mut rest) = (words.clone(), run.to_vec(), rest.to_vec());
+    let mut line = vec![r.next() as u8; listing_line_length(plan)];
+    match r.below(5) {
+        0 => {
+            while words.plan.is_some() {
+                words = damaged(r, plan, &words.words);
+            }
+        }
+        1 => given[GOOD_AT + r.below(plan.nodes)] |= 1 << r.between(10, 63),
+        2 => line.truncate(r.pick(&[line.len() - 1, r.below(line.len())])),
+        3 => given[RUN_WORDS - 1] = r.pick(&[100_000, 100_000 + r.next() % (1 << 62)]),
+        _ if rest.is_empty() => rest.push(r.pick(b" \n0")),
+        _ => damage::run(r, &mut rest, plan.nodes, plan.sensors, r.below(18)),
+    }
+    let before = given.clone();
+    let answer = both.listing_next(&words, &mut given, &rest, &mut line, &mut draw.number())?;
+    match answer != 0 && before != given {
+        true => Err(String::from("a refused line changed the run\n")),
+        false => Ok(()),
+    }
 }
 
 // ---- boards: the same frames by the calls on one node
@@ -399,20 +530,20 @@ fn boards(both: &mut Both, values: &Values, rows: &[Row]) -> Compared<()> {
     let r = both.r;
     let (plan, words) = accepted(rows);
     let draw = Draw { r, values, plan: &plan, wrong: 0 };
-    let mut rows = zero_rows();
-    both.system_power_on(&words, &mut rows)?;
+    let mut system = any_words(r, SYSTEM_WORDS);
+    both.system_power_on(&words, &mut system)?;
     let mut nodes = vec![draw.memory(); plan.nodes];
     for memory in &mut nodes {
         both.node_power_on(&words, memory)?;
     }
     let masks = r.pick(&[Masks::Premise, Masks::Stretches, Masks::Any]);
     for (mask, sensors) in frames(r, &plan, values, masks).into_iter().take(8) {
-        let faults = draw.faults(&rows, &sensors);
+        let faults = draw.faults(&system, &sensors);
         let (mut place, mut agreement) = (draw.setpoints(), draw.number());
-        both.system_frame(&words, &mut rows, &sensors, mask, &faults, &mut place, &mut agreement)?;
+        both.frame(&words, &mut system, &sensors, mask, &faults, &mut place, &mut agreement)?;
         let frame = Fault { plan: &plan, words: &words, mask, faults: &faults };
         let (planes, agreements) = frame.by_nodes(both, &mut nodes, &sensors)?;
-        let memories: Vec<_> = (0..plan.nodes).map(|node| memory_in(&rows, node)).collect();
+        let memories: Vec<_> = (0..plan.nodes).map(|node| memory_in(&system, node)).collect();
         let least = agreements.iter().min().copied().unwrap_or(0);
         if planes != place || memories != nodes || least != agreement {
             return Err(format!(
@@ -449,7 +580,7 @@ impl Fault<'_> {
     fn by_nodes(
         &self,
         both: &mut Both,
-        nodes: &mut [Memory],
+        nodes: &mut [Record],
         sensors: &[u64],
     ) -> Compared<(Vec<u64>, Vec<usize>)> {
         let length = message_length(self.plan);
@@ -482,11 +613,11 @@ impl Fault<'_> {
     }
 
     /// The memory and the setpoints of a bad node.
-    fn load(&self, node: usize, memory: &mut Memory, setpoints: &mut [u64]) {
+    fn load(&self, node: usize, memory: &mut [u64], setpoints: &mut [u64]) {
         let bytes = self.fault(node);
         let pattern = |at: usize| u64::from_be_bytes(bytes[at..at + 8].try_into().unwrap());
-        memory.counter = u16::from_be_bytes([bytes[0], bytes[1]]);
-        for (cell, value) in memory.cells[..self.plan.cells].iter_mut().enumerate() {
+        memory[0] = u64::from(u16::from_be_bytes([bytes[0], bytes[1]]));
+        for (cell, value) in memory[1..1 + self.plan.cells].iter_mut().enumerate() {
             *value = pattern(2 + 8 * cell);
         }
         let own = bytes.len() - 8 * setpoints.len();

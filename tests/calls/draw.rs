@@ -1,11 +1,13 @@
-//! Arguments of calls: plans as words and damages to them, memories, systems, mailboxes, masks and
-//! fault bytes, with or without something wrong.
+//! Arguments of calls: plans as words and damages to them, memories, systems, runs, run lines,
+//! mailboxes, masks and fault bytes, with or without something wrong.
 
-use super::both::{Memory, Rows, Words};
-use super::calls::{self, memory_of};
-use super::calls::{CELLS, COUNTS, FRAMES, NODES, OUTPUTS_AT, PLAN_WORDS, TASKS_AT, VOTES_AT};
+use super::both::{Record, Words};
+use super::calls::{self, listing_line_length, memory_of};
+use super::calls::{CELLS, COUNTS, FRAMES, OUTPUTS_AT, PLAN_WORDS, TASKS_AT, VOTES_AT};
+use super::calls::{GOOD_AT, MEMORY_WORDS, NODES};
+use super::damage;
 use super::frame::{self, fault_length, message_length};
-use super::generate::{longest, plan_text, recovering, slow};
+use super::generate::{longest, plan_text, recovering, run, slow, Masks};
 use super::plan::{read, Plan, Row};
 use super::random::{strange, Random, Values};
 
@@ -42,17 +44,17 @@ fn other_constant(r: &Random) -> u64 {
     r.pick(&[r.pick(&edges), strange(r)])
 }
 
-/// Changes words of an accepted plan, or their number. What comes out may be accepted too.
+/// Changes words of an accepted plan. What comes out may be accepted too.
 pub fn damaged(r: &Random, plan: &Plan, right: &[u64]) -> Words {
     let mut words = right.to_vec();
     damage(r, plan, &mut words);
-    while r.one_in(4) && words.len() == PLAN_WORDS {
+    while r.one_in(4) {
         damage(r, plan, &mut words);
     }
     Words::new(words)
 }
 
-fn damage(r: &Random, plan: &Plan, words: &mut Vec<u64>) {
+fn damage(r: &Random, plan: &Plan, words: &mut [u64]) {
     let tasks = words[COUNTS - 1].min(64) as usize;
     // A used task, or any.
     let task = match tasks > 0 && !r.one_in(4) {
@@ -60,12 +62,8 @@ fn damage(r: &Random, plan: &Plan, words: &mut Vec<u64>) {
         false => r.below(64),
     };
     let at = TASKS_AT + 6 * task;
-    match r.below(14) {
-        0 | 1 => {
-            let past = PLAN_WORDS + r.between(1, 10);
-            let lengths = [0, 1, 445, 447, 447, past, 2 * PLAN_WORDS, r.below(PLAN_WORDS)];
-            words.resize(r.pick(&lengths), r.pick(&[0, 0, 1]));
-        }
+    match r.between(1, 13) {
+        1 => words.fill(r.pick(&[0, 1, u64::MAX])),
         2 => {
             let count = r.below(COUNTS);
             // Just past the limits of this count, or of any.
@@ -120,6 +118,27 @@ fn damage(r: &Random, plan: &Plan, words: &mut Vec<u64>) {
     }
 }
 
+/// A word that is `low` in its low 16 bits only.
+fn above_16_bits(r: &Random, low: u64) -> u64 {
+    r.pick(&[low + 65_536, low | 1 << 32, low | MINUS, low | u64::MAX << 16, low | r.next() << 16])
+}
+
+/// Changes words that count for nothing: those past the plan's nodes and cells, and the bits of a
+/// counter above the low 16.
+pub fn stray(r: &Random, plan: &Plan, system: &mut [u64]) {
+    let (node, cell) = (r.below(NODES), r.below(CELLS));
+    if node < plan.nodes {
+        let counter = &mut system[MEMORY_WORDS * node];
+        *counter = above_16_bits(r, *counter % 65_536);
+    } else {
+        system[GOOD_AT + node] = r.pick(&[0, 65_539, r.next()]);
+        system[MEMORY_WORDS * node] = r.next();
+    }
+    if node >= plan.nodes || cell >= plan.cells {
+        system[MEMORY_WORDS * node + 1 + cell] = r.next();
+    }
+}
+
 pub fn wrong_length(r: &Random, right: usize) -> usize {
     r.pick(&[0, right + 1, right.saturating_sub(1), right + r.between(2, 9), right / 2, 2 * right])
 }
@@ -154,8 +173,8 @@ impl Draw<'_> {
         }
     }
 
-    fn patterns(&self, right: usize) -> Vec<u64> {
-        (0..self.length(right)).map(|_| self.pattern()).collect()
+    fn patterns(&self, count: usize) -> Vec<u64> {
+        (0..count).map(|_| self.pattern()).collect()
     }
 
     fn counter(&self) -> u16 {
@@ -164,17 +183,29 @@ impl Draw<'_> {
         r.pick(&[below, below, below, frames, frames + 1, 65_535, r.next() as u16])
     }
 
-    pub fn memory(&self) -> Memory {
-        Memory { counter: self.counter(), cells: self.patterns(CELLS) }
+    /// The word of a counter, now and then with bits above the 16 that count.
+    fn counter_word(&self) -> u64 {
+        let counter = u64::from(self.counter());
+        match self.r.below(5) {
+            0 => above_16_bits(self.r, counter),
+            _ => counter,
+        }
+    }
+
+    /// Words of a memory, those past the plan's cells too.
+    pub fn memory(&self) -> Record {
+        let mut words = vec![self.counter_word()];
+        words.extend(self.patterns(CELLS));
+        words
     }
 
     pub fn sensors(&self) -> Vec<u64> {
-        self.patterns(self.plan.sensors)
+        self.patterns(self.length(self.plan.sensors))
     }
 
     /// A place for setpoints, with something in it.
     pub fn setpoints(&self) -> Vec<u64> {
-        self.patterns(self.plan.actuators)
+        self.patterns(self.length(self.plan.actuators))
     }
 
     /// A place for a message, with something in it.
@@ -182,13 +213,21 @@ impl Draw<'_> {
         vec![self.r.next() as u8; self.length(message_length(self.plan))]
     }
 
-    /// A place for the text, too short where something is to be wrong.
-    pub fn text(&self, words: &Words) -> Vec<u8> {
-        let right = calls::text_size(words.plan.as_ref());
+    /// A place for bytes that may be longer than these: too short, exact or longer.
+    fn place(&self, right: usize) -> Vec<u8> {
         let short = [0, right.saturating_sub(1), self.r.below(right + 1)];
         let wide = [right, right, right + 1, right + self.r.below(200)];
         let length = if self.r.one_in(3) { self.r.pick(&short) } else { self.r.pick(&wide) };
         vec![self.r.next() as u8; length]
+    }
+
+    pub fn text(&self, words: &Words) -> Vec<u8> {
+        self.place(calls::text_size(words.plan.as_ref()))
+    }
+
+    /// A place for a line of the listing.
+    pub fn line(&self) -> Vec<u8> {
+        self.place(listing_line_length(self.plan))
     }
 
     /// A length of histories: 1 to 4, or outside, also right in its low bits only.
@@ -239,49 +278,92 @@ impl Draw<'_> {
         }
     }
 
-    /// Good counts: mostly R; past the nodes anything.
-    fn good(&self) -> Vec<u16> {
-        let (r, period) = (self.r, self.plan.period);
-        let count = |node: usize| match r.below(4) {
-            _ if node >= self.plan.nodes => r.next() as u16,
+    /// The word of a good count: mostly R; past the nodes anything. Above R also what is right in
+    /// its low 16 bits only, as 65,539 for 3.
+    fn good(&self, node: usize) -> u64 {
+        let (r, period) = (self.r, self.plan.period as u64);
+        let up_to = r.below(self.plan.period + 1) as u64;
+        match r.below(4) {
+            _ if node >= self.plan.nodes => r.pick(&[0, period, r.next()]),
             _ if self.wrong > 0 && r.one_in(7 * self.wrong) => {
-                r.pick(&[period + 1, 65_535, period + 256]) as u16
+                let near = [period + 1, period + 256, 65_535, 65_536];
+                r.pick(&[r.pick(&near), above_16_bits(r, r.pick(&[up_to, period])), u64::MAX])
             }
-            0 => r.below(period + 1) as u16,
-            1 => r.pick(&[0, period - 1]) as u16,
-            _ => period as u16,
-        };
-        (0..self.length(NODES)).map(count).collect()
+            0 => up_to,
+            1 => r.pick(&[0, period - 1]),
+            _ => period,
+        }
     }
 
     /// A system with any memories, many of them this one, or this one but for a bit.
-    pub fn rows(&self, memory: &Memory) -> Rows {
+    pub fn system(&self, memory: &[u64]) -> Record {
         let (r, plan) = (self.r, self.plan);
-        let (mut counters, mut cells) = (Vec::new(), Vec::new());
+        let mut words = Vec::new();
         for node in 0..NODES {
-            let mut own = Memory { counter: memory.counter, cells: memory.cells.clone() };
-            own.cells.resize(CELLS, 0);
-            match r.below(8) {
-                0 => own.counter = self.counter(),
-                1 => own.cells[r.below(plan.cells)] ^= 1 << r.pick(&[63, 63, r.below(64)]),
-                2 => own.cells[r.below(plan.cells)] = self.pattern(),
-                3 => own.cells[plan.cells..].iter_mut().for_each(|cell| *cell = !*cell),
-                4 => own = Memory { counter: r.next() as u16, cells: self.patterns(CELLS) },
-                _ if node >= plan.nodes => own.counter = r.next() as u16,
+            let mut own = memory.to_vec();
+            let cell = 1 + r.below(plan.cells);
+            match r.below(9) {
+                0 => own[0] = self.counter_word(),
+                1 => own[0] = above_16_bits(r, own[0] % 65_536),
+                2 => own[cell] ^= 1 << r.pick(&[63, 63, r.below(64)]),
+                3 => own[cell] = self.pattern(),
+                4 => own[1 + plan.cells..].iter_mut().for_each(|cell| *cell = !*cell),
+                5 => own = self.memory(),
+                _ if node >= plan.nodes => own[0] = r.next(),
                 _ => {}
             }
-            own.cells.resize(CELLS, 0);
-            counters.push(own.counter);
-            cells.extend(own.cells);
+            words.extend(own);
         }
-        counters.resize(self.length(NODES), 1);
-        cells.resize(self.length(NODES * CELLS), 2);
-        Rows { counters, cells, good: self.good() }
+        words.extend((0..NODES).map(|node| self.good(node)));
+        words
+    }
+
+    /// A run with any system and any memory of the single controller; frame numbers also just
+    /// below 100,000 and above it. The R that stands in it counts for nothing.
+    pub fn run(&self, memory: &[u64]) -> Record {
+        let r = self.r;
+        let mut words = self.system(memory);
+        words.extend(r.pick(&[memory, &self.memory()]));
+        words.push(r.pick(&[self.plan.period as u64, 0, r.next()]));
+        let near = [99_998, 99_999, 100_000, 100_001, 165_536];
+        let far = [1 << 32, (1 << 32) + 5, MINUS, u64::MAX, r.next()];
+        let low = r.below(300) as u64;
+        words.push(r.pick(&[0, low, low, low, r.pick(&near), r.pick(&far)]));
+        words
+    }
+
+    /// What is left of a run file: nothing, or some lines, damaged or not.
+    pub fn rest(&self) -> Vec<u8> {
+        let (r, plan) = (self.r, self.plan);
+        let masks = r.pick(&[Masks::Quiet, Masks::Any, Masks::Extreme]);
+        let mut text = run(r, plan, self.values, masks, r.below(4));
+        match r.below(4) {
+            0 if !text.is_empty() => {
+                damage::run(r, &mut text, plan.nodes, plan.sensors, r.below(18));
+            }
+            1 if r.one_in(4) => text.truncate(r.below(text.len() + 1)),
+            _ => {}
+        }
+        text
+    }
+
+    /// An answer for a refusal's line: any number and any line.
+    pub fn answer(&self) -> u64 {
+        let r = self.r;
+        let number = r.pick(&[r.below(13), r.below(13), r.below(13), 255, r.below(256)]) as u64;
+        let lines = [0, 1, r.between(1, 618) as u64, 100_001, 99_999_999, 100_000_000];
+        let line = r.pick(&[r.pick(&lines), r.pick(&lines), r.next() >> 8]);
+        number + 256 * line
+    }
+
+    /// A place for a refusal's line.
+    pub fn refusal(&self) -> Vec<u8> {
+        self.place(13)
     }
 
     /// A mailbox: any bytes; bins mostly equal to the message of a memory; or bins in which each
     /// field is shared by no one, by half of them, by just more than half, or by all.
-    pub fn mailbox(&self, memory: &Memory) -> Vec<u8> {
+    pub fn mailbox(&self, memory: &[u64]) -> Vec<u8> {
         let (r, plan) = (self.r, self.plan);
         let bin = message_length(plan);
         let mut mailbox = vec![0; plan.nodes * bin];
@@ -306,11 +388,9 @@ impl Draw<'_> {
     }
 
     /// What the memory sends, or all of its cells.
-    fn message_of(&self, memory: &Memory) -> Vec<u8> {
+    fn message_of(&self, memory: &[u64]) -> Vec<u8> {
         let mut bytes = vec![0; message_length(self.plan)];
-        let mut cells = memory.cells.clone();
-        cells.resize(CELLS, 0);
-        let own = memory_of(self.plan, memory.counter, &cells);
+        let own = memory_of(self.plan, memory);
         own.message(self.plan, &mut bytes);
         if self.r.one_in(3) {
             put_fields(&mut bytes, own.counter, own.cells.iter().copied());
@@ -360,7 +440,7 @@ impl Draw<'_> {
 
     /// Fault bytes: any bytes; one byte; fields of a few patterns; or messages that are nearly
     /// those of a good node, another one for each receiver, and setpoints that are nearly its own.
-    pub fn faults(&self, rows: &Rows, sensors: &[u64]) -> Vec<u8> {
+    pub fn faults(&self, system: &[u64], sensors: &[u64]) -> Vec<u8> {
         let (r, plan) = (self.r, self.plan);
         let mut faults = vec![0; fault_length(plan)];
         match r.below(8) {
@@ -368,7 +448,7 @@ impl Draw<'_> {
             1 => faults.fill(r.pick(&[0, 255, r.next() as u8])),
             2 | 3 => self.fault_fields(&mut faults, None),
             _ => {
-                let truth = self.truth(rows, sensors);
+                let truth = self.truth(system, sensors);
                 self.fault_fields(&mut faults, truth.as_ref());
             }
         }
@@ -377,10 +457,9 @@ impl Draw<'_> {
     }
 
     /// Some node's memory after it has computed.
-    fn truth(&self, rows: &Rows, sensors: &[u64]) -> Option<frame::Memory> {
+    fn truth(&self, system: &[u64], sensors: &[u64]) -> Option<frame::Memory> {
         let (plan, node) = (self.plan, self.r.below(self.plan.nodes));
-        let cells = rows.cells.get(CELLS * node..CELLS * (node + 1))?;
-        let mut memory = memory_of(plan, *rows.counters.get(node)?, cells);
+        let mut memory = memory_of(plan, &system[MEMORY_WORDS * node..]);
         if sensors.len() != plan.sensors {
             return None;
         }

@@ -1,5 +1,5 @@
-/* Every wrapper of include/ragbasalt.h, as C11 and as C++17: prints the whole listing of plan.txt and run.txt in the current folder, by the calls on the system and,
- * beside them, by those on one node. Exit status 1 where something is not as it has to be; the numbers and lines of refusals are tested too. */
+/* Every struct and function of include/ragbasalt.h, as C11 and as C++17: prints the whole listing of plan.txt and run.txt in the current folder, by the calls on the system and, beside them, by
+ * those on one node and by those on a run. Exit status 1 where something is not as it has to be; the numbers and lines of refusals are tested too. */
 #include <inttypes.h>
 #include <stdio.h>
 #include <stdlib.h>
@@ -19,46 +19,99 @@ static void hold(int right, const char *what)
 
 #define HOLD(condition) hold((condition) != 0, #condition)
 
-static uint64_t refusal(unsigned number, unsigned line)
+static ragbasalt_answer refusal(unsigned number, uint64_t line)
 {
-    return number + 256u * line;
+    return number + 256 * line;
 }
 
-/* The structs lie as the archive's slices do. */
-static void structs(void)
+static size_t contents(const char *name, uint8_t *bytes, size_t room)
 {
-    HOLD(sizeof(ragbasalt_plan) == 8 * 446);
-    HOLD(offsetof(ragbasalt_memory, cells) == 8 && sizeof(ragbasalt_memory) == 8 * 33);
-    HOLD(sizeof(((ragbasalt_system *)0)->counters) == 14 && sizeof(((ragbasalt_system *)0)->good) == 14);
-    HOLD(RAGBASALT_AT_TASKS == RAGBASALT_AT_INITIAL + RAGBASALT_CELLS && RAGBASALT_AT_VOTES == RAGBASALT_AT_TASKS + 6 * RAGBASALT_TASKS);
-    HOLD(RAGBASALT_AT_ACTUATOR_CELLS == RAGBASALT_AT_VOTES + RAGBASALT_FRAMES);
-    HOLD(RAGBASALT_PLAN_WORDS == RAGBASALT_AT_ACTUATOR_CELLS + RAGBASALT_ACTUATORS);
-    HOLD(ragbasalt_number_of(refusal(RAGBASALT_OUT_OF_RANGE, 617)) == 5 && ragbasalt_line_of(refusal(RAGBASALT_OUT_OF_RANGE, 617)) == 617);
+    FILE *file = fopen(name, "rb");
+    size_t count = file == NULL ? 0 : fread(bytes, 1, room, file);
+    if (file != NULL)
+        fclose(file);
+    return count;
+}
+
+/* The number of a column. */
+static uint64_t column(const uint8_t *text, size_t width)
+{
+    char digits[21];
+    memcpy(digits, text, width);
+    digits[width] = 0;
+    return strtoull(digits, NULL, 10);
+}
+
+/* The fields of the structs are what their names say: the plan's lines, one by one. */
+static void fields(const ragbasalt_plan *plan, const uint8_t *text, size_t length)
+{
+    static const size_t widths[] = {4, 4, 4, 4, 20, 20};
+    uint64_t n[6], votes[RAGBASALT_MAX_FRAMES] = {0};
+    size_t line, i, at, cells = 0, tasks = 0, actuators = 0;
+    const ragbasalt_task *task;
+    for (line = 0; line < length; line += 57) {
+        for (i = 0, at = line; i < 6; at += widths[i++])
+            n[i] = column(text + at, widths[i]);
+        if (n[0] == 0)
+            HOLD(n[1] == plan->nodes && n[2] == plan->frames && n[3] == plan->cells && n[4] == plan->sensors && n[5] == plan->actuators);
+        else if (n[0] == 1)
+            HOLD(n[4] == plan->initial[cells++]);
+        else if (n[0] == 20)
+            votes[n[1]] |= UINT64_C(1) << n[2];
+        else if (n[0] == 30)
+            HOLD(n[2] == plan->actuator_cells[actuators++]);
+        else {
+            task = &plan->tasks[tasks++];
+            HOLD(n[0] >= RAGBASALT_TAKE && n[0] <= RAGBASALT_CAM && n[0] == task->kind && n[1] == task->frame && n[2] == task->target);
+            HOLD(n[3] == task->source && n[4] == task->first && n[5] == task->second);
+        }
+    }
+    HOLD(cells == plan->cells && tasks == plan->task_count && actuators == plan->actuators && memcmp(votes, plan->votes, sizeof votes) == 0);
 }
 
 /* A plan and its text. */
 static void plans(const ragbasalt_plan *plan, uint8_t *text, size_t length)
 {
-    static uint8_t written[RAGBASALT_TEXT_BYTES];
-    ragbasalt_plan other, zero;
+    static uint8_t written[RAGBASALT_MAX_TEXT_BYTES + 1];
+    static ragbasalt_plan other, zero;
+    static ragbasalt_run run, none;
     size_t count = 1, period = 1;
-    size_t n = (size_t)plan->words[RAGBASALT_AT_NODES], c = (size_t)plan->words[RAGBASALT_AT_CELLS], a = (size_t)plan->words[RAGBASALT_AT_ACTUATORS];
-    memset(&zero, 0, sizeof zero);
-    memset(&other, 0, sizeof other);
-    HOLD(ragbasalt_check(plan) == RAGBASALT_DONE && ragbasalt_check(&zero) == RAGBASALT_INVALID_PLAN);
-    HOLD(ragbasalt_period(plan, &period) == RAGBASALT_DONE && period > 0);
-    HOLD(ragbasalt_period(&zero, &period) == RAGBASALT_INVALID_PLAN && period == 0);
-    HOLD(ragbasalt_message_length(plan) == 2 + 8 * c && ragbasalt_message_length(&zero) == 0);
-    HOLD(ragbasalt_mailbox_length(plan) == n * (2 + 8 * c) && ragbasalt_mailbox_length(&zero) == 0);
-    HOLD(ragbasalt_faults_length(plan) == n * ((n + 1) * (2 + 8 * c) + 8 * a) && ragbasalt_faults_length(&zero) == 0);
-    HOLD(ragbasalt_text_length(plan) == length && ragbasalt_text_length(&zero) == 0);
-    HOLD(ragbasalt_write(plan, written, sizeof written, &count) == RAGBASALT_DONE && count == length && memcmp(text, written, length) == 0);
-    HOLD(ragbasalt_write(plan, written, length - 1, &count) == RAGBASALT_WRONG_LENGTH && count == 0);
-    HOLD(ragbasalt_read(text, 0, &other) == RAGBASALT_TEXT_LENGTH);
+    size_t n = (size_t)plan->nodes, c = (size_t)plan->cells, a = (size_t)plan->actuators;
+    HOLD(ragbasalt_plan_check(plan) == RAGBASALT_DONE && ragbasalt_plan_check(&zero) == RAGBASALT_REFUSED_PLAN);
+    HOLD(ragbasalt_plan_period(plan, &period) == RAGBASALT_DONE && period > 0);
+    HOLD(ragbasalt_plan_period(&zero, &period) == RAGBASALT_REFUSED_PLAN && period == 0);
+    HOLD(ragbasalt_message_size(plan) == 2 + 8 * c && ragbasalt_message_size(plan) <= RAGBASALT_MAX_MESSAGE_BYTES && ragbasalt_message_size(&zero) == 0);
+    HOLD(ragbasalt_mailbox_size(plan) == n * (2 + 8 * c) && ragbasalt_mailbox_size(plan) <= RAGBASALT_MAX_MAILBOX_BYTES && ragbasalt_mailbox_size(&zero) == 0);
+    HOLD(ragbasalt_faults_size(plan) == n * ((n + 1) * (2 + 8 * c) + 8 * a) && ragbasalt_faults_size(plan) <= RAGBASALT_MAX_FAULTS_BYTES && ragbasalt_faults_size(&zero) == 0);
+    HOLD(ragbasalt_text_size(plan) == length && ragbasalt_text_size(&zero) == 0);
+    HOLD(ragbasalt_plan_write(plan, written, sizeof written, &count) == RAGBASALT_DONE && count == length && memcmp(text, written, length) == 0);
+    HOLD(ragbasalt_plan_write(plan, written, length - 1, &count) == RAGBASALT_REFUSED_LENGTH && count == 0);
+    HOLD(ragbasalt_plan_write(&zero, written, 0, &count) == RAGBASALT_REFUSED_PLAN && count == 0);
+    HOLD(ragbasalt_plan_read(text, 0, &other) == RAGBASALT_REFUSED_TEXT_LENGTH);
+    HOLD(ragbasalt_listing_start(text, length + 1, &other, &run) == RAGBASALT_REFUSED_TEXT_LENGTH);
     text[length - 1] = ' ';
-    HOLD(ragbasalt_read(text, length, &other) == refusal(RAGBASALT_MALFORMED, (unsigned)(length / 57)));
-    HOLD(memcmp(&other, &zero, sizeof zero) == 0);
+    HOLD(ragbasalt_plan_read(text, length, &other) == refusal(RAGBASALT_REFUSED_MALFORMED, length / 57));
+    HOLD(ragbasalt_listing_start(text, length, &other, &run) == refusal(RAGBASALT_REFUSED_MALFORMED, length / 57));
     text[length - 1] = '\n';
+    text[3] = '1';
+    HOLD(ragbasalt_plan_read(text, length, &other) == refusal(RAGBASALT_REFUSED_HEADER, 1));
+    text[3] = '0';
+    HOLD(ragbasalt_plan_read(text, length - 57, &other) == refusal(RAGBASALT_REFUSED_ORDER, length / 57));
+    text[length - 2] = '1';
+    HOLD(ragbasalt_plan_read(text, length, &other) == refusal(RAGBASALT_REFUSED_RANGE, length / 57));
+    text[length - 2] = '0';
+    HOLD(memcmp(&other, &zero, sizeof zero) == 0 && memcmp(&run, &none, sizeof none) == 0);
+}
+
+/* A plan without a recovery period: one cell that nothing writes and no vote covers. */
+static void unrecoverable(void)
+{
+    static ragbasalt_plan plan;
+    char text[3 * 57 + 1];
+    snprintf(text, 58, "%4d%4d%4d%4d%20d%20d\n", 0, 3, 1, 1, 1, 1);
+    snprintf(text + 57, 58, "%4d%4d%4d%4d%20d%20d\n", 1, 0, 0, 0, 0, 0);
+    snprintf(text + 114, 58, "%4d%4d%4d%4d%20d%20d\n", 30, 0, 0, 0, 0, 0);
+    HOLD(ragbasalt_plan_read((const uint8_t *)text, 3 * 57, &plan) == RAGBASALT_REFUSED_UNRECOVERABLE && plan.nodes == 0);
 }
 
 /* How many histories of length 3 a press has: by its nodes, and by whether the recovery period is 1. */
@@ -71,39 +124,38 @@ static size_t three(size_t nodes, size_t period)
 /* The fault histories; plan K, with three nodes and the recovery period 3, has 22 of length 3. */
 static void histories(const ragbasalt_plan *plan)
 {
-    static uint8_t masks[RAGBASALT_HISTORIES_BYTES + 1], untouched[RAGBASALT_HISTORIES_BYTES + 1];
-    ragbasalt_plan zero;
-    size_t n = (size_t)plan->words[RAGBASALT_AT_NODES], period = 0, length, count, bytes, i;
-    memset(&zero, 0, sizeof zero);
+    static uint8_t masks[RAGBASALT_MAX_HISTORIES_BYTES + 1], untouched[RAGBASALT_MAX_HISTORIES_BYTES + 1];
+    static ragbasalt_plan zero;
+    size_t n = (size_t)plan->nodes, period = 0, frames, count, bytes, i;
     memset(masks, 255, sizeof masks);
     memset(untouched, 255, sizeof untouched);
-    HOLD(ragbasalt_period(plan, &period) == RAGBASALT_DONE);
+    HOLD(ragbasalt_plan_period(plan, &period) == RAGBASALT_DONE);
     count = 9;
-    HOLD(ragbasalt_histories(&zero, 0, masks, 0, &count) == RAGBASALT_INVALID_PLAN && count == 0);
-    for (length = 0; length <= 5; length++) {
+    HOLD(ragbasalt_plan_histories(&zero, 0, masks, 0, &count) == RAGBASALT_REFUSED_PLAN && count == 0);
+    for (frames = 0; frames <= RAGBASALT_MAX_HISTORIES_FRAMES + 1; frames++) {
         count = 9;
-        if (n > 5 || length == 0 || length == 5) {
-            HOLD(ragbasalt_histories(plan, length, masks, 0, &count) == RAGBASALT_NODES_OR_LENGTH && count == 0);
+        if (n > RAGBASALT_MAX_HISTORIES_NODES || frames == 0 || frames > RAGBASALT_MAX_HISTORIES_FRAMES) {
+            HOLD(ragbasalt_plan_histories(plan, frames, masks, 0, &count) == RAGBASALT_REFUSED_HISTORIES && count == 0);
             count = 9;
-            HOLD(ragbasalt_histories(plan, length, masks, sizeof masks, &count) == RAGBASALT_NODES_OR_LENGTH && count == 0);
+            HOLD(ragbasalt_plan_histories(plan, frames, masks, sizeof masks, &count) == RAGBASALT_REFUSED_HISTORIES && count == 0);
             HOLD(memcmp(masks, untouched, sizeof masks) == 0);
             continue;
         }
-        HOLD(ragbasalt_histories(plan, length, masks, RAGBASALT_HISTORIES_BYTES, &count) == RAGBASALT_DONE && count > 0);
-        HOLD(length != 3 || count == three(n, period));
-        bytes = count * length;
-        HOLD(bytes <= RAGBASALT_HISTORIES_BYTES);
-        if (bytes > RAGBASALT_HISTORIES_BYTES)
+        HOLD(ragbasalt_plan_histories(plan, frames, masks, RAGBASALT_MAX_HISTORIES_BYTES, &count) == RAGBASALT_DONE && count > 0);
+        HOLD(frames != 3 || count == three(n, period));
+        bytes = count * frames;
+        HOLD(bytes <= RAGBASALT_MAX_HISTORIES_BYTES);
+        if (bytes > RAGBASALT_MAX_HISTORIES_BYTES)
             return;
         HOLD(memcmp(masks + bytes, untouched, sizeof masks - bytes) == 0);
-        for (i = 0; i < length; i++)
+        for (i = 0; i < frames; i++)
             HOLD(masks[i] == 0);
         for (i = 1; i < count; i++)
-            HOLD(memcmp(masks + (i - 1) * length, masks + i * length, length) < 0);
+            HOLD(memcmp(masks + (i - 1) * frames, masks + i * frames, frames) < 0);
         memset(masks, 255, sizeof masks);
-        HOLD(ragbasalt_histories(plan, length, masks, bytes - 1, &count) == RAGBASALT_WRONG_LENGTH && count == 0);
+        HOLD(ragbasalt_plan_histories(plan, frames, masks, bytes - 1, &count) == RAGBASALT_REFUSED_LENGTH && count == 0);
         HOLD(memcmp(masks, untouched, sizeof masks) == 0);
-        HOLD(ragbasalt_histories(plan, length, masks, bytes, &count) == RAGBASALT_DONE && count == bytes / length);
+        HOLD(ragbasalt_plan_histories(plan, frames, masks, bytes, &count) == RAGBASALT_DONE && count == bytes / frames);
         memset(masks, 255, sizeof masks);
     }
 }
@@ -112,75 +164,129 @@ static void histories(const ragbasalt_plan *plan)
 static void node(const ragbasalt_plan *plan, const ragbasalt_memory *before, const ragbasalt_memory *after, const uint64_t *sensors, const uint64_t *expected)
 {
     ragbasalt_memory memory = *before;
-    uint8_t mailbox[RAGBASALT_MAILBOX_BYTES];
-    uint64_t setpoints[RAGBASALT_ACTUATORS];
-    size_t bytes = ragbasalt_message_length(plan), n = (size_t)plan->words[RAGBASALT_AT_NODES], i, agreement = 9;
-    size_t s = (size_t)plan->words[RAGBASALT_AT_SENSORS], a = (size_t)plan->words[RAGBASALT_AT_ACTUATORS];
-    HOLD(ragbasalt_compute(plan, &memory, sensors, s + 1) == RAGBASALT_WRONG_LENGTH && memory.counter == before->counter);
-    HOLD(ragbasalt_compute(plan, &memory, sensors, s) == RAGBASALT_DONE);
+    uint8_t mailbox[RAGBASALT_MAX_MAILBOX_BYTES];
+    uint64_t setpoints[RAGBASALT_MAX_ACTUATORS];
+    size_t bytes = ragbasalt_message_size(plan), n = (size_t)plan->nodes, s = (size_t)plan->sensors, a = (size_t)plan->actuators, i, agreement = 9;
+    /* Bits of a counter above the low 16 count for nothing, and stay beside a refusal. */
+    memory.counter += UINT64_C(65536);
+    HOLD(ragbasalt_node_compute(plan, &memory, sensors, s + 1) == RAGBASALT_REFUSED_LENGTH && memory.counter == before->counter + 65536);
+    HOLD(ragbasalt_node_compute(plan, &memory, sensors, s) == RAGBASALT_DONE && memory.counter == after->counter);
     for (i = 0; i < n; i++)
-        HOLD(ragbasalt_message(plan, &memory, mailbox + i * bytes, bytes) == RAGBASALT_DONE);
-    HOLD(ragbasalt_vote(plan, &memory, mailbox, n * bytes - 1, &agreement) == RAGBASALT_WRONG_LENGTH && agreement == 0);
-    HOLD(ragbasalt_vote(plan, &memory, mailbox, n * bytes, &agreement) == RAGBASALT_DONE && agreement == n);
-    HOLD(ragbasalt_setpoints(plan, &memory, setpoints, a) == RAGBASALT_DONE && memcmp(setpoints, expected, 8 * a) == 0);
-    HOLD(memory.counter == after->counter && memcmp(memory.cells, after->cells, sizeof memory.cells) == 0);
+        HOLD(ragbasalt_node_message(plan, &memory, mailbox + i * bytes, bytes) == RAGBASALT_DONE);
+    HOLD(ragbasalt_node_message(plan, &memory, mailbox, bytes - 1) == RAGBASALT_REFUSED_LENGTH);
+    HOLD(ragbasalt_node_vote(plan, &memory, mailbox, n * bytes - 1, &agreement) == RAGBASALT_REFUSED_LENGTH && agreement == 0);
+    HOLD(ragbasalt_node_vote(plan, &memory, mailbox, n * bytes, &agreement) == RAGBASALT_DONE && agreement == n);
+    HOLD(ragbasalt_node_setpoints(plan, &memory, setpoints, a - 1) == RAGBASALT_REFUSED_LENGTH);
+    HOLD(ragbasalt_node_setpoints(plan, &memory, setpoints, a) == RAGBASALT_DONE && memcmp(setpoints, expected, 8 * a) == 0);
+    HOLD(memcmp(&memory, after, sizeof memory) == 0);
 }
 
-/* The next column of a run line; 0 at the end of the file. */
-static int column(FILE *file, size_t width, uint64_t *value)
+/* The next line by the calls on a run, beside what the calls on the system gave; then calls that are refused. */
+static void next(const ragbasalt_plan *plan, ragbasalt_run *run, const uint8_t *rest, size_t length, const char *expected, size_t bytes)
 {
-    char digits[21];
-    size_t count = fread(digits, 1, width, file);
-    digits[count] = 0;
-    *value = strtoull(digits, NULL, 10);
-    return count == width;
+    uint8_t line[RAGBASALT_MAX_LINE_BYTES + 1];
+    ragbasalt_run before = *run;
+    size_t count = 9, one = 9 + 20 * (size_t)plan->sensors;
+    memset(line, '.', sizeof line);
+    HOLD(ragbasalt_listing_next(plan, run, rest, length, line, bytes - 1, &count) == RAGBASALT_REFUSED_LENGTH && count == 0);
+    HOLD(ragbasalt_listing_next(plan, run, rest, one - 1, line, bytes, &count) == refusal(RAGBASALT_REFUSED_RUN_LINE, run->frame + 1) && count == 0);
+    run->frame = before.frame + 100000;
+    HOLD(ragbasalt_listing_next(plan, run, rest, length, line, bytes, &count) == refusal(RAGBASALT_REFUSED_RUN_LINE, 100001) && count == 0);
+    run->frame = before.frame;
+    run->system.good[0] += 65536;
+    HOLD(ragbasalt_listing_next(plan, run, rest, length, line, bytes, &count) == RAGBASALT_REFUSED_MASK && count == 0);
+    run->system.good[0] -= 65536;
+    HOLD(memcmp(run, &before, sizeof before) == 0 && line[0] == '.');
+    HOLD(ragbasalt_listing_next(plan, run, rest, length, line, sizeof line, &count) == RAGBASALT_DONE && count == bytes && bytes <= RAGBASALT_MAX_LINE_BYTES);
+    HOLD(memcmp(line, expected, bytes) == 0 && line[bytes] == '.' && run->frame == before.frame + 1);
+}
+
+/* The line of a refusal, as the run program prints it. */
+static void refusals(void)
+{
+    static const struct {
+        unsigned number;
+        uint64_t line;
+        const char *text;
+    } lines[] = {{RAGBASALT_REFUSED_TEXT_LENGTH, 0, "   1       0\n"}, {RAGBASALT_REFUSED_RANGE, 617, "   5     617\n"}, {RAGBASALT_REFUSED_RUN_LINE, 100001, "  10  100001\n"}, {RAGBASALT_REFUSED_HISTORIES, 0, "  11       0\n"}};
+    uint8_t line[RAGBASALT_REFUSAL_LINE_BYTES + 1];
+    size_t i, count;
+    for (i = 0; i < sizeof lines / sizeof lines[0]; i++) {
+        ragbasalt_answer answer = refusal(lines[i].number, lines[i].line);
+        HOLD(ragbasalt_number_of(answer) == lines[i].number && ragbasalt_line_of(answer) == lines[i].line);
+        memset(line, '.', sizeof line);
+        count = 9;
+        HOLD(ragbasalt_listing_refusal(answer, line, sizeof line - 2, &count) == RAGBASALT_REFUSED_LENGTH && count == 0 && line[0] == '.');
+        HOLD(ragbasalt_listing_refusal(RAGBASALT_DONE, line, sizeof line, &count) == RAGBASALT_DONE && count == 0 && line[0] == '.');
+        HOLD(ragbasalt_listing_refusal(answer, line, sizeof line, &count) == RAGBASALT_DONE && count == RAGBASALT_REFUSAL_LINE_BYTES);
+        HOLD(memcmp(line, lines[i].text, RAGBASALT_REFUSAL_LINE_BYTES) == 0 && line[RAGBASALT_REFUSAL_LINE_BYTES] == '.');
+    }
 }
 
 int main(void)
 {
-    static ragbasalt_plan plan;
-    static ragbasalt_system system;
-    static uint8_t text[RAGBASALT_TEXT_BYTES], faults[RAGBASALT_FAULTS_BYTES];
+    static ragbasalt_plan plan, zero, listed;
+    static ragbasalt_system system, before_frame;
+    static ragbasalt_run run;
+    static uint8_t text[RAGBASALT_MAX_TEXT_BYTES + 1], lines[1 << 20], faults[RAGBASALT_MAX_FAULTS_BYTES];
     ragbasalt_memory single, before;
-    uint64_t sensors[RAGBASALT_SENSORS + 1], setpoints[RAGBASALT_ACTUATORS], expected[RAGBASALT_ACTUATORS], mask, fill;
-    size_t length, frame, s, a, i, working, equal, agreement;
-    FILE *file = fopen("plan.txt", "rb");
+    uint64_t sensors[RAGBASALT_MAX_SENSORS + 1] = {0}, setpoints[RAGBASALT_MAX_ACTUATORS], expected[RAGBASALT_MAX_ACTUATORS], mask;
+    size_t length = contents("plan.txt", text, sizeof text), whole = contents("run.txt", lines, sizeof lines);
+    size_t at, one, s, a, i, working, equal, agreement, count, period;
+    char line[RAGBASALT_MAX_LINE_BYTES + 1], *end;
 
-    length = file == NULL ? 0 : fread(text, 1, sizeof text, file);
-    HOLD(ragbasalt_version() == RAGBASALT_VERSION);
-    HOLD(ragbasalt_read(text, length, &plan) == RAGBASALT_DONE);
+    HOLD(ragbasalt_version_3() == RAGBASALT_VERSION);
+    HOLD(ragbasalt_plan_read(text, length, &plan) == RAGBASALT_DONE && whole < sizeof lines);
     if (failures)
         return 1;
-    fclose(file);
-    structs();
+    fields(&plan, text, length);
     plans(&plan, text, length);
+    unrecoverable();
     histories(&plan);
-    s = (size_t)plan.words[RAGBASALT_AT_SENSORS];
-    a = (size_t)plan.words[RAGBASALT_AT_ACTUATORS];
-    HOLD(ragbasalt_power_on(&plan, &single) == RAGBASALT_DONE && ragbasalt_start(&plan, &system) == RAGBASALT_DONE);
+    refusals();
+    s = (size_t)plan.sensors;
+    a = (size_t)plan.actuators;
+    one = 9 + 20 * s;
+    memset(&single, 255, sizeof single);
+    memset(&system, 255, sizeof system);
+    memset(&run, 255, sizeof run);
+    HOLD(ragbasalt_node_power_on(&plan, &single) == RAGBASALT_DONE && ragbasalt_system_power_on(&plan, &system) == RAGBASALT_DONE);
+    HOLD(single.counter == 0 && memcmp(single.cells, plan.initial, sizeof single.cells) == 0);
+    HOLD(ragbasalt_plan_period(&plan, &period) == RAGBASALT_DONE);
+    for (i = 0; i < RAGBASALT_MAX_NODES; i++)
+        HOLD(system.good[i] == (i < plan.nodes ? period : 0) && memcmp(&system.nodes[i], i < plan.nodes ? (const void *)&single : (const void *)&zero, sizeof single) == 0);
+    HOLD(ragbasalt_listing_start(text, length, &listed, &run) == RAGBASALT_DONE && memcmp(&listed, &plan, sizeof plan) == 0);
+    HOLD(memcmp(&run.system, &system, sizeof system) == 0 && memcmp(&run.single, &single, sizeof single) == 0 && run.period == period && run.frame == 0);
 
-    file = fopen("run.txt", "rb");
-    for (frame = 0; file != NULL && column(file, 4, &mask) && column(file, 4, &fill); frame++) {
+    for (at = 0; at + one <= whole; at += one) {
+        mask = column(lines + at, 4);
+        memset(faults, (int)column(lines + at + 4, 4), sizeof faults);
         for (i = 0; i < s; i++)
-            HOLD(column(file, 20, &sensors[i]));
-        HOLD(fgetc(file) == '\n');
-        sensors[s] = 0;
-        memset(faults, (int)fill, sizeof faults);
-        HOLD(ragbasalt_working(&plan, &system, 128, &working) == RAGBASALT_MASK_OR_COUNT && working == 0);
+            sensors[i] = column(lines + at + 8 + 20 * i, 20);
+        before_frame = system;
+        HOLD(ragbasalt_system_working(&plan, &system, 128, &working) == RAGBASALT_REFUSED_MASK && working == 0);
         agreement = 9;
-        HOLD(ragbasalt_frame(&plan, &system, sensors, s, 128, faults, 0, setpoints, a, &agreement) == RAGBASALT_MASK_OR_COUNT && agreement == 0);
+        HOLD(ragbasalt_system_frame(&zero, &system, sensors, s, 128, faults, 0, setpoints, a, &agreement) == RAGBASALT_REFUSED_PLAN && agreement == 0);
         agreement = 9;
-        HOLD(ragbasalt_frame(&plan, &system, sensors, s, mask, faults, 0, setpoints, a, &agreement) == RAGBASALT_WRONG_LENGTH && agreement == 0);
-        HOLD(ragbasalt_working(&plan, &system, mask, &working) == RAGBASALT_DONE);
-        HOLD(ragbasalt_frame(&plan, &system, sensors, s, mask, faults, ragbasalt_faults_length(&plan), setpoints, a, &agreement) == RAGBASALT_DONE);
+        HOLD(ragbasalt_system_frame(&plan, &system, sensors, s, 128, faults, 0, setpoints, a, &agreement) == RAGBASALT_REFUSED_MASK && agreement == 0);
+        agreement = 9;
+        HOLD(ragbasalt_system_frame(&plan, &system, sensors, s, mask, faults, 0, setpoints, a, &agreement) == RAGBASALT_REFUSED_LENGTH && agreement == 0);
+        HOLD(memcmp(&system, &before_frame, sizeof system) == 0);
+        HOLD(ragbasalt_system_working(&plan, &system, mask, &working) == RAGBASALT_DONE);
+        HOLD(ragbasalt_system_frame(&plan, &system, sensors, s, mask, faults, ragbasalt_faults_size(&plan), setpoints, a, &agreement) == RAGBASALT_DONE);
         before = single;
-        HOLD(ragbasalt_single(&plan, &single, sensors, s, expected, a) == RAGBASALT_DONE);
-        HOLD(ragbasalt_equal(&plan, &system, &single, &equal) == RAGBASALT_DONE);
+        HOLD(ragbasalt_single_frame(&plan, &single, sensors, s, expected, a) == RAGBASALT_DONE);
+        HOLD(ragbasalt_system_equal(&plan, &system, &single, &equal) == RAGBASALT_DONE);
         node(&plan, &before, &single, sensors, expected);
-        printf("%8zu%4zu%4zu", frame, working, equal);
+        end = line + snprintf(line, sizeof line, "%8zu%4zu%4zu", at / one, working, equal);
         for (i = 0; i < a; i++)
-            printf("%20" PRIu64, setpoints[i]);
-        printf("%4zu\n", agreement);
+            end += snprintf(end, 21, "%20" PRIu64, setpoints[i]);
+        end += snprintf(end, 6, "%4zu\n", agreement);
+        next(&plan, &run, lines + at, whole - at, line, (size_t)(end - line));
+        HOLD(memcmp(&run.system, &system, sizeof system) == 0 && memcmp(&run.single, &single, sizeof single) == 0);
+        fputs(line, stdout);
     }
+    count = 9;
+    HOLD(at == whole && ragbasalt_listing_next(&plan, &run, lines, 0, text, sizeof text, &count) == RAGBASALT_DONE && count == 0);
     return failures > 0;
 }

@@ -1,4 +1,4 @@
-//! Slices lent to the library: guards before and after them, and what has to stand in them when
+//! Buffers lent to the library: guards before and after them, and what has to stand in them when
 //! the call is over.
 
 use std::fmt::Debug;
@@ -12,10 +12,6 @@ pub trait Element: Copy + PartialEq + Debug {
 
 impl Element for u8 {
     const GUARD: u8 = 0xA5;
-}
-
-impl Element for u16 {
-    const GUARD: u16 = 0xA55A;
 }
 
 impl Element for u64 {
@@ -59,7 +55,7 @@ impl<T: Element> Lent<T> {
     }
 }
 
-/// What all lent slices have, whatever is in them.
+/// What all parameters have, whatever is in them.
 pub trait Slice {
     /// What differs from what the reference left, if anything does.
     fn difference(&self) -> Option<String>;
@@ -86,5 +82,18 @@ impl<T: Element> Slice for Lent<T> {
 
     fn lent(&self) -> String {
         format!("{} ({}) = {:?}", self.name, self.len(), self.before)
+    }
+}
+
+/// A number that goes by value, for the report.
+pub struct Number(pub &'static str, pub u64);
+
+impl Slice for Number {
+    fn difference(&self) -> Option<String> {
+        None
+    }
+
+    fn lent(&self) -> String {
+        format!("{} = {}", self.0, self.1)
     }
 }

@@ -37,7 +37,7 @@ use random::Random;
 
 const USAGE: &str = "usage:
   calls COUNT [FIRST_SEED]          compare cases until at least COUNT calls were made
-  calls --bare COUNT [FIRST_SEED]   the same with slices that have no guards, for valgrind
+  calls --bare COUNT [FIRST_SEED]   the same with buffers that have no guards, for valgrind
   calls --seed SEED                 compare one case
   calls --broken TESTS LIBRARY WORK build broken references, copied from the folder TESTS to WORK,
                                     with libragbasalt.a in the folder LIBRARY, and compare";
@@ -96,6 +96,7 @@ fn sum(all: &mut Totals, part: &Totals) {
     all.boards += part.boards;
     all.differing += part.differing;
     all.small.iter_mut().zip(part.small).for_each(|(all, part)| *all += part);
+    all.listings.iter_mut().zip(part.listings).for_each(|(all, part)| *all += part);
     all.periods.iter_mut().zip(part.periods).for_each(|(all, part)| *all += part);
     for (all, part) in all.histories.iter_mut().flatten().zip(part.histories.iter().flatten()) {
         *all += part;
@@ -108,7 +109,8 @@ fn sum(all: &mut Totals, part: &Totals) {
 /// Prints how often each call gave each answer; false if one of its answers never came up.
 fn print(totals: &Totals) -> bool {
     let mut complete = totals.inside > 0 && totals.outside > 0 && totals.recovered > 0;
-    complete &= totals.differing > 0 && totals.small.iter().all(|&frames| frames > 0);
+    complete &= totals.differing > 0;
+    complete &= totals.small.iter().chain(&totals.listings).all(|&seen| seen > 0);
     complete &= totals.histories.iter().flatten().chain(&totals.periods).all(|&lists| lists > 0);
     print!("{:<16}{:>8}", "call", "calls");
     (0..NUMBERS).for_each(|number| print!("{number:>8}"));
@@ -139,6 +141,8 @@ fn print(totals: &Totals) -> bool {
     );
     let [one, two, apart] = totals.small;
     println!("frames of one node that is bad {one}; of two, one bad {two}, good and apart {apart}");
+    let [whole, line, plan] = totals.listings;
+    println!("runs listed to the end {whole}, to a refused line {line}, of a refused plan {plan}");
     println!(
         "histories by nodes and length {:?}; of length 4 by R of 1, 2 and longer {:?}",
         totals.histories, totals.periods

@@ -1,13 +1,16 @@
-//! The calls that the library exports: what each answers and writes, on numbers and slices.
+//! The calls that the library exports: what each answers and writes, on numbers, words and slices.
 //!
 //! What the calls do and when they are refused is document 01's, the agreement request 2026-02's
-//! and the histories 2026-05's; beside a refusal a number that a call gives is 0. Plan, memory and
-//! system as words are the library's own layout, which document 01 has not: a memory is a counter
-//! and 32 patterns, a system 7 counters, 7 x 32 patterns and 7 good counts, a plan 446 words.
+//! and the histories 2026-05's; beside a refusal a number that a call gives is 0. Plan, memory,
+//! system and run as words are the library's own layout, which document 01 has not and
+//! include/ragbasalt.h tells: a plan is 446 words, a memory a counter and 32 patterns, a system 7
+//! memories and 7 good counts, a run a system, a memory, R and a frame number. Any words may stand
+//! in them.
 
 use super::frame::{fault_length, message_length, Memory, System};
 use super::generate::plan_text;
 use super::histories::histories;
+use super::listing::{push_number, run_line_length, Run, MOST_LINES};
 use super::plan::{parse_rows, read, Action, Plan, Row, Task, LINE, MOST_TASKS};
 
 pub const NODES: usize = 7;
@@ -21,6 +24,20 @@ pub const TASKS_AT: usize = COUNTS + CELLS;
 pub const VOTES_AT: usize = TASKS_AT + 6 * MOST_TASKS;
 pub const OUTPUTS_AT: usize = VOTES_AT + FRAMES;
 pub const PLAN_WORDS: usize = OUTPUTS_AT + ACTUATORS;
+/// A counter, then patterns.
+pub const MEMORY_WORDS: usize = 1 + CELLS;
+/// Memories, then good counts.
+pub const GOOD_AT: usize = NODES * MEMORY_WORDS;
+pub const SYSTEM_WORDS: usize = GOOD_AT + NODES;
+/// A system, the single controller's memory, R, the number of the next frame.
+pub const SINGLE_AT: usize = SYSTEM_WORDS;
+pub const PERIOD_AT: usize = SINGLE_AT + MEMORY_WORDS;
+pub const FRAME_AT: usize = PERIOD_AT + 1;
+pub const RUN_WORDS: usize = FRAME_AT + 1;
+
+/// The largest number of a refusal, and the bytes of its line.
+const LAST_REFUSAL: u64 = 11;
+const REFUSAL_LINE: usize = 13;
 
 /// "An unused task is a Take of zeros."
 const UNUSED_TASK: Row = [10, 0, 0, 0, 0, 0];
@@ -29,6 +46,10 @@ const UNUSED_TASK: Row = [10, 0, 0, 0, 0, 0];
 /// number + 256 x line; 0 is done.
 fn answer(number: u64, line: usize) -> u64 {
     number + 256 * line as u64
+}
+
+pub fn version() -> u64 {
+    3
 }
 
 // ---- a plan as rows and as words
@@ -95,9 +116,6 @@ fn used<T: PartialEq>(entries: &[T], count: u64, unused: T) -> Option<&[T]> {
 
 /// The plan that the words are; None is "7: a plan record that no accepted text has".
 pub fn plan_of(words: &[u64]) -> Option<Plan> {
-    if words.len() != PLAN_WORDS {
-        return None;
-    }
     let [n, f, c, s, a, tasks] = *words.first_chunk()?;
     let all_tasks: Vec<Row> =
         words[TASKS_AT..VOTES_AT].chunks_exact(6).map(|task| task.try_into().unwrap()).collect();
@@ -123,7 +141,6 @@ pub fn plan_of(words: &[u64]) -> Option<Plan> {
 pub fn plan_read(text: &[u8], words: &mut [u64]) -> u64 {
     match read(text) {
         Err(refusal) => answer(refusal.number, refusal.line),
-        Ok(_) if words.len() != PLAN_WORDS => answer(8, 0),
         Ok(plan) => {
             words.copy_from_slice(&words_of(&plan));
             0
@@ -195,71 +212,66 @@ pub fn text_size(plan: Option<&Plan>) -> usize {
     plan.map_or(0, |plan| LINE * rows_of(plan).len())
 }
 
-// ---- calls on one node
+// ---- calls on one node, whose memory is 33 words
 
-/// The memory of a counter and patterns. "What a memory .. holds past .. C cells .. is neither read
-/// nor changed."
-pub fn memory_of(plan: &Plan, counter: u16, cells: &[u64]) -> Memory {
-    Memory { counter, cells: cells[..plan.cells].to_vec() }
+/// The memory that words are: a counter's word counts by its low 16 bits. "What a memory .. holds
+/// past .. C cells .. is neither read nor changed."
+pub fn memory_of(plan: &Plan, words: &[u64]) -> Memory {
+    Memory { counter: words[0] as u16, cells: words[1..1 + plan.cells].to_vec() }
 }
 
-fn put_memory(memory: Memory, counter: &mut u16, cells: &mut [u64]) {
-    *counter = memory.counter;
-    cells[..memory.cells.len()].copy_from_slice(&memory.cells);
+fn put_memory(memory: &Memory, words: &mut [u64]) {
+    words[0] = u64::from(memory.counter);
+    words[1..1 + memory.cells.len()].copy_from_slice(&memory.cells);
 }
 
 /// "At power-on the counter is 0 and cells are initial, zero past C."
-pub fn node_power_on(plan: Option<&Plan>, counter: &mut u16, cells: &mut [u64]) -> u64 {
+fn put_power_on(plan: &Plan, words: &mut [u64]) {
+    words.fill(0);
+    put_memory(&Memory::power_on(plan), words);
+}
+
+pub fn node_power_on(plan: Option<&Plan>, memory: &mut [u64]) -> u64 {
     let Some(plan) = plan else { return answer(7, 0) };
-    if cells.len() != CELLS {
-        return answer(8, 0);
-    }
-    cells.fill(0);
-    put_memory(Memory::power_on(plan), counter, cells);
+    put_power_on(plan, memory);
     0
 }
 
-pub fn node_compute(
-    plan: Option<&Plan>,
-    counter: &mut u16,
-    cells: &mut [u64],
-    sensors: &[u64],
-) -> u64 {
+pub fn node_compute(plan: Option<&Plan>, memory: &mut [u64], sensors: &[u64]) -> u64 {
     let Some(plan) = plan else { return answer(7, 0) };
-    if cells.len() != CELLS || sensors.len() != plan.sensors {
+    if sensors.len() != plan.sensors {
         return answer(8, 0);
     }
-    let mut memory = memory_of(plan, *counter, cells);
-    memory.compute(plan, sensors);
-    put_memory(memory, counter, cells);
+    let mut own = memory_of(plan, memory);
+    own.compute(plan, sensors);
+    put_memory(&own, memory);
     0
 }
 
-pub fn node_message(plan: Option<&Plan>, counter: u16, cells: &[u64], message: &mut [u8]) -> u64 {
+pub fn node_message(plan: Option<&Plan>, memory: &[u64], message: &mut [u8]) -> u64 {
     let Some(plan) = plan else { return answer(7, 0) };
-    if cells.len() != CELLS || message.len() != message_length(plan) {
+    if message.len() != message_length(plan) {
         return answer(8, 0);
     }
-    memory_of(plan, counter, cells).message(plan, message);
+    memory_of(plan, memory).message(plan, message);
     0
 }
 
 /// "A node's vote gives the least such count over its counter and voted cells."
 pub fn node_vote(
     plan: Option<&Plan>,
-    counter: &mut u16,
-    cells: &mut [u64],
+    memory: &mut [u64],
     mailbox: &[u8],
     agreement: &mut usize,
 ) -> u64 {
     *agreement = 0;
     let Some(plan) = plan else { return answer(7, 0) };
-    if cells.len() != CELLS || mailbox.len() != plan.nodes * message_length(plan) {
+    if mailbox.len() != plan.nodes * message_length(plan) {
         return answer(8, 0);
     }
-    let mut memory = memory_of(plan, *counter, cells);
-    *agreement = memory.vote(plan, mailbox);
-    put_memory(memory, counter, cells);
+    let mut own = memory_of(plan, memory);
+    *agreement = own.vote(plan, mailbox);
+    put_memory(&own, memory);
     0
 }
 
@@ -269,12 +281,12 @@ fn put_setpoints(plan: &Plan, memory: &Memory, place: &mut [u64]) {
     }
 }
 
-pub fn node_setpoints(plan: Option<&Plan>, counter: u16, cells: &[u64], place: &mut [u64]) -> u64 {
+pub fn node_setpoints(plan: Option<&Plan>, memory: &[u64], place: &mut [u64]) -> u64 {
     let Some(plan) = plan else { return answer(7, 0) };
-    if cells.len() != CELLS || place.len() != plan.actuators {
+    if place.len() != plan.actuators {
         return answer(8, 0);
     }
-    put_setpoints(plan, &memory_of(plan, counter, cells), place);
+    put_setpoints(plan, &memory_of(plan, memory), place);
     0
 }
 
@@ -282,69 +294,70 @@ pub fn node_setpoints(plan: Option<&Plan>, counter: u16, cells: &[u64], place: &
 /// never votes."
 pub fn single_frame(
     plan: Option<&Plan>,
-    counter: &mut u16,
-    cells: &mut [u64],
+    memory: &mut [u64],
     sensors: &[u64],
     place: &mut [u64],
 ) -> u64 {
     let Some(plan) = plan else { return answer(7, 0) };
-    if cells.len() != CELLS || sensors.len() != plan.sensors || place.len() != plan.actuators {
+    if sensors.len() != plan.sensors || place.len() != plan.actuators {
         return answer(8, 0);
     }
-    let mut memory = memory_of(plan, *counter, cells);
-    memory.compute(plan, sensors);
-    put_setpoints(plan, &memory, place);
-    put_memory(memory, counter, cells);
+    let mut own = memory_of(plan, memory);
+    own.compute(plan, sensors);
+    put_setpoints(plan, &own, place);
+    put_memory(&own, memory);
     0
 }
 
-// ---- calls on the whole system
+// ---- calls on the whole system, which is 238 words
 
-/// The lengths of a system's counters, patterns and good counts.
-fn of_length(counters: &[u16], cells: &[u64], good: &[u16]) -> bool {
-    counters.len() == NODES && cells.len() == NODES * CELLS && good.len() == NODES
+/// The words of a node's memory.
+fn node_words(node: usize) -> std::ops::Range<usize> {
+    MEMORY_WORDS * node..MEMORY_WORDS * (node + 1)
 }
 
-/// "9: mask >= 2^n, or a good count above R." Good counts of another length are not tested.
-fn mask_or_count(plan: &Plan, mask: u64, good: &[u16]) -> bool {
-    let above = |&count: &u16| usize::from(count) > plan.period;
-    let counts = good.len() == NODES && good[..plan.nodes].iter().any(above);
-    mask >= 1 << plan.nodes || counts
+/// A node's good count: above 65,535 a word counts as 65,535.
+fn good_count(system: &[u64], node: usize) -> usize {
+    system[GOOD_AT + node].min(65_535) as usize
+}
+
+/// "9: mask >= 2^n, or a good count above R."
+fn mask_or_count(plan: &Plan, mask: u64, system: &[u64]) -> bool {
+    let above = (0..plan.nodes).any(|node| good_count(system, node) > plan.period);
+    mask >= 1 << plan.nodes || above
+}
+
+/// The record that words are. "What a .. system record holds past n nodes .. is neither read nor
+/// changed."
+fn system_of(plan: &Plan, words: &[u64]) -> System {
+    let mut system = System::power_on(plan);
+    for node in 0..plan.nodes {
+        system.memories[node] = memory_of(plan, &words[node_words(node)]);
+        system.counts[node] = good_count(words, node);
+    }
+    system
+}
+
+fn put_system(system: &System, words: &mut [u64]) {
+    for (node, memory) in system.memories.iter().enumerate() {
+        put_memory(memory, &mut words[node_words(node)]);
+        words[GOOD_AT + node] = system.counts[node] as u64;
+    }
 }
 
 /// "n memories and n good counts, each R, with zeros past them."
-pub fn system_power_on(
-    plan: Option<&Plan>,
-    counters: &mut [u16],
-    cells: &mut [u64],
-    good: &mut [u16],
-) -> u64 {
+pub fn system_power_on(plan: Option<&Plan>, system: &mut [u64]) -> u64 {
     let Some(plan) = plan else { return answer(7, 0) };
-    if !of_length(counters, cells, good) {
-        return answer(8, 0);
-    }
-    counters.fill(0);
-    cells.fill(0);
-    good.fill(0);
-    put_system(&System::power_on(plan), counters, cells, good);
+    system.fill(0);
+    put_system(&System::power_on(plan), system);
     0
-}
-
-fn put_system(system: &System, counters: &mut [u16], cells: &mut [u64], good: &mut [u16]) {
-    for (node, memory) in system.memories.iter().enumerate() {
-        put_memory(memory.clone(), &mut counters[node], &mut cells[CELLS * node..]);
-        good[node] = system.counts[node] as u16;
-    }
 }
 
 /// Beside the record and the setpoints the agreement: "the least over the good nodes, or 0 if all
 /// are bad".
-#[allow(clippy::too_many_arguments)]
 pub fn system_frame(
     plan: Option<&Plan>,
-    counters: &mut [u16],
-    cells: &mut [u64],
-    good: &mut [u16],
+    system: &mut [u64],
     sensors: &[u64],
     mask: u64,
     faults: &[u8],
@@ -353,60 +366,127 @@ pub fn system_frame(
 ) -> u64 {
     *agreement = 0;
     let Some(plan) = plan else { return answer(7, 0) };
-    if mask_or_count(plan, mask, good) {
+    if mask_or_count(plan, mask, system) {
         return answer(9, 0);
     }
     let lengths = sensors.len() == plan.sensors
         && faults.len() == fault_length(plan)
         && place.len() == plan.actuators;
-    if !of_length(counters, cells, good) || !lengths {
+    if !lengths {
         return answer(8, 0);
     }
-    let mut system = System::power_on(plan);
-    for node in 0..plan.nodes {
-        system.memories[node] = memory_of(plan, counters[node], &cells[CELLS * node..]);
-        system.counts[node] = usize::from(good[node]);
-    }
-    (_, *agreement) = system.frame(plan, sensors, mask, faults, place);
-    put_system(&system, counters, cells, good);
+    let mut record = system_of(plan, system);
+    (_, *agreement) = record.frame(plan, sensors, mask, faults, place);
+    put_system(&record, system);
     0
 }
 
 /// "A node is working in a frame if it is good in it and its count before was R."
-pub fn system_working(plan: Option<&Plan>, good: &[u16], mask: u64, count: &mut usize) -> u64 {
+pub fn system_working(plan: Option<&Plan>, system: &[u64], mask: u64, count: &mut usize) -> u64 {
     *count = 0;
     let Some(plan) = plan else { return answer(7, 0) };
-    if mask_or_count(plan, mask, good) {
+    if mask_or_count(plan, mask, system) {
         return answer(9, 0);
     }
-    if good.len() != NODES {
-        return answer(8, 0);
-    }
-    let works = |&node: &usize| mask >> node & 1 == 0 && usize::from(good[node]) == plan.period;
+    let works = |&node: &usize| mask >> node & 1 == 0 && good_count(system, node) == plan.period;
     *count = (0..plan.nodes).filter(works).count();
     0
 }
 
 /// "Nodes whose memory then equals the single controller's."
-pub fn system_equal(
+pub fn system_equal(plan: Option<&Plan>, system: &[u64], memory: &[u64], count: &mut usize) -> u64 {
+    *count = 0;
+    let Some(plan) = plan else { return answer(7, 0) };
+    if mask_or_count(plan, 0, system) {
+        return answer(9, 0);
+    }
+    let single = memory_of(plan, memory);
+    let equal = |&node: &usize| memory_of(plan, &system[node_words(node)]) == single;
+    *count = (0..plan.nodes).filter(equal).count();
+    0
+}
+
+// ---- a run, which is 273 words, and its listing line by line
+
+/// What is printed for a frame: its number (8), two counts (4 each), A plane values (20 each), the
+/// agreement (4), line feed.
+pub fn listing_line_length(plan: &Plan) -> usize {
+    21 + 20 * plan.actuators
+}
+
+/// The plan of a text, and its run at power-on.
+pub fn listing_start(text: &[u8], plan: &mut [u64], run: &mut [u64]) -> u64 {
+    match read(text) {
+        Err(refusal) => answer(refusal.number, refusal.line),
+        Ok(found) => {
+            plan.copy_from_slice(&words_of(&found));
+            run.fill(0);
+            put_system(&System::power_on(&found), run);
+            put_power_on(&found, &mut run[SINGLE_AT..PERIOD_AT]);
+            run[PERIOD_AT] = found.period as u64;
+            0
+        }
+    }
+}
+
+/// "10: a line not of form, mask >= 2^n, fill > 255, or line 100,001": `rest` is what is left of
+/// the run file. At its end nothing is run. R is the plan's, whatever the run has.
+pub fn listing_next(
     plan: Option<&Plan>,
-    counters: &[u16],
-    cells: &[u64],
-    good: &[u16],
-    counter: u16,
-    single: &[u64],
+    run: &mut [u64],
+    rest: &[u8],
+    place: &mut [u8],
     count: &mut usize,
 ) -> u64 {
     *count = 0;
     let Some(plan) = plan else { return answer(7, 0) };
-    if mask_or_count(plan, 0, good) {
+    if mask_or_count(plan, 0, run) {
         return answer(9, 0);
     }
-    if !of_length(counters, cells, good) || single.len() != CELLS {
+    if place.len() < listing_line_length(plan) {
         return answer(8, 0);
     }
-    let single = memory_of(plan, counter, single);
-    let equal = |&node: &usize| memory_of(plan, counters[node], &cells[CELLS * node..]) == single;
-    *count = (0..plan.nodes).filter(equal).count();
+    let single = memory_of(plan, &run[SINGLE_AT..PERIOD_AT]);
+    let mut state = Run::new(plan, system_of(plan, run), single);
+    if !rest.is_empty() {
+        let frame = run[FRAME_AT].min(MOST_LINES as u64) as usize;
+        let line = rest.get(..run_line_length(plan)).filter(|_| frame < MOST_LINES);
+        let mut out = Vec::new();
+        if line.and_then(|line| state.frame(line, frame, &mut out)).is_none() {
+            return answer(10, frame + 1);
+        }
+        place[..out.len()].copy_from_slice(&out);
+        *count = out.len();
+        run[PERIOD_AT] = plan.period as u64;
+        run[FRAME_AT] = frame as u64 + 1;
+    }
+    put_system(&state.system, run);
+    put_memory(&state.single, &mut run[SINGLE_AT..PERIOD_AT]);
+    0
+}
+
+/// "A refusal prints number (4) and line (8) and ends the listing." Of a line's number the last
+/// eight digits; a number that is no refusal's prints nothing. A number that never has a line has
+/// line 0, and 3 is of the first line, whatever line is given.
+pub fn listing_refusal(given: u64, place: &mut [u8], count: &mut usize) -> u64 {
+    *count = 0;
+    if place.len() < REFUSAL_LINE {
+        return answer(8, 0);
+    }
+    let number = given % 256;
+    let line = match number {
+        2 | 4 | 5 | 10 => given / 256,
+        3 => 1,
+        _ => 0,
+    };
+    if (1..=LAST_REFUSAL).contains(&number) {
+        let mut out = Vec::new();
+        push_number(&mut out, number, 4);
+        push_number(&mut out, line, 20);
+        place[..4].copy_from_slice(&out[..4]);
+        place[4..12].copy_from_slice(&out[16..]);
+        place[12] = b'\n';
+        *count = REFUSAL_LINE;
+    }
     0
 }

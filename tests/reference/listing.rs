@@ -53,10 +53,10 @@ fn run_line(plan: &Plan, line: &[u8], sensors: &mut [u64]) -> Option<(u64, u8)> 
 }
 
 /// The system, the single controller beside it, and the buffers of a frame call.
-struct Run<'a> {
+pub struct Run<'a> {
     plan: &'a Plan,
-    system: System,
-    single: Memory,
+    pub system: System,
+    pub single: Memory,
     sensors: Vec<u64>,
     faults: Vec<u8>,
     place: Vec<u64>,
@@ -64,10 +64,15 @@ struct Run<'a> {
 
 impl<'a> Run<'a> {
     fn power_on(plan: &'a Plan) -> Run<'a> {
+        Run::new(plan, System::power_on(plan), Memory::power_on(plan))
+    }
+
+    /// A run that goes on from any state.
+    pub fn new(plan: &'a Plan, system: System, single: Memory) -> Run<'a> {
         Run {
             plan,
-            system: System::power_on(plan),
-            single: Memory::power_on(plan),
+            system,
+            single,
             sensors: vec![0; plan.sensors],
             faults: vec![0; fault_length(plan)],
             place: vec![0; plan.actuators],
@@ -77,7 +82,7 @@ impl<'a> Run<'a> {
     /// Runs the frame of a line and prints it: "frame number from 0 (width 8), nodes working in
     /// it (4), nodes whose memory then equals the single controller's (4), A plane values (20
     /// each)", and "a last column of width 4", the agreement. None: the line is refused.
-    fn frame(&mut self, line: &[u8], number: usize, out: &mut Vec<u8>) -> Option<()> {
+    pub fn frame(&mut self, line: &[u8], number: usize, out: &mut Vec<u8>) -> Option<()> {
         let (mask, fill) = run_line(self.plan, line, &mut self.sensors)?;
         // "Only bad nodes' bytes matter."
         if mask != 0 && self.faults[0] != fill {

@@ -550,6 +550,13 @@ fn a_frame_of_two_nodes_with_a_bad_one() {
     assert_eq!(frame(3, (0, [0, one]), 6), (6, 0, 0));
 }
 
+/// The words of a system of K in which all nodes have these good counts, and everything else is 9.
+fn system_words(nodes: usize, good: u64) -> Vec<u64> {
+    let mut words = vec![9; 238];
+    words[231..231 + nodes].fill(good);
+    words
+}
+
 /// "What a .. system record holds past n nodes .. is neither read nor changed"; "9: mask >= 2^n, or
 /// a good count above R".
 #[test]
@@ -557,39 +564,26 @@ fn calls_on_one_and_two_nodes() {
     for nodes in [1, 2] {
         let plan = k_of(nodes as u64, false);
         let faults = vec![0; fault_length(&plan)];
-        let frame = |mask: u64, good: &mut [u16]| {
-            let (mut counters, mut cells) = ([0; 7], [0; 224]);
-            (counters[nodes], cells[32 * nodes]) = (9, 9);
+        let frame = |mask: u64, system: &mut [u64]| {
             let (mut place, mut agreement) = ([9], 9);
-            let answer = calls::system_frame(
-                Some(&plan),
-                &mut counters,
-                &mut cells,
-                good,
-                &[5],
-                mask,
-                &faults,
-                &mut place,
-                &mut agreement,
-            );
-            assert_eq!((counters[nodes], cells[32 * nodes]), (9, 9));
+            let given = (&mut place, &mut agreement);
+            let answer =
+                calls::system_frame(Some(&plan), system, &[5], mask, &faults, given.0, given.1);
+            assert!(system[33 * nodes..231].iter().chain(&system[231 + nodes..]).all(|&w| w == 9));
             (answer, agreement)
         };
-        let counts = |count: u16| {
-            let mut good = [9; 7];
-            good[..nodes].fill(count);
-            good
-        };
-        let (mut good, mut working) = (counts(3), 9);
-        let answer = calls::system_working(Some(&plan), &good, 0, &mut working);
+        let good = |system: &[u64]| system[231..231 + nodes].to_vec();
+        let (mut system, mut working) = (system_words(nodes, 3), 9);
+        let answer = calls::system_working(Some(&plan), &system, 0, &mut working);
         assert_eq!((answer, working), (0, nodes));
-        assert_eq!(frame(0, &mut good), (0, nodes));
-        assert_eq!(frame(1 << nodes, &mut good), (9, 0));
-        assert_eq!(good, counts(3));
+        assert_eq!(frame(0, &mut system), (0, nodes));
+        let after = system.clone();
+        assert_eq!(frame(1 << nodes, &mut system), (9, 0));
+        assert_eq!((good(&system), &system), (vec![3; nodes], &after));
         // All are bad, with zero bytes.
-        assert_eq!(frame((1 << nodes) - 1, &mut good), (0, 0));
-        assert_eq!(good, counts(0));
-        assert_eq!(frame(0, &mut counts(4)), (9, 0));
+        assert_eq!(frame((1 << nodes) - 1, &mut system), (0, 0));
+        assert_eq!(good(&system), vec![0; nodes]);
+        assert_eq!(frame(0, &mut system_words(nodes, 4)), (9, 0));
     }
 }
 
@@ -631,9 +625,10 @@ fn words_of_k() {
     let mut words = vec![7; 446];
     assert_eq!(calls::plan_read(&plan_text(&K), &mut words), 0);
     assert_eq!(words, k_words());
-    assert_eq!(calls::plan_read(&plan_text(&without(&K, 6)), &mut words[..445]), 6);
-    assert_eq!(calls::plan_read(&plan_text(&changed(&K, 5, &[(2, 2)])), &mut words), 5 + 256 * 5);
-    assert_eq!(calls::plan_read(&plan_text(&K), &mut words[..445]), 8);
+    let mut kept = vec![7; 446];
+    assert_eq!(calls::plan_read(&plan_text(&without(&K, 6)), &mut kept), 6);
+    assert_eq!(calls::plan_read(&plan_text(&changed(&K, 5, &[(2, 2)])), &mut kept), 5 + 256 * 5);
+    assert_eq!(kept, vec![7; 446]);
     let plan = calls::plan_of(&k_words());
     let (mut period, mut count, mut text) = (0, 9, vec![255; 400]);
     assert_eq!((calls::plan_period(plan.as_ref(), &mut period), period), (0, 3));
@@ -681,8 +676,7 @@ fn words_that_are_no_plan() {
     assert!(!with(&[(44, 16), (47, 2), (48, 0)]), "a cam of a cell past the cells");
     assert!(!with(&[(423, 6)]) && !with(&[(423, 2 | 1 << 32)]) && !with(&[(424, 1)]));
     assert!(!with(&[(438, 2)]) && !with(&[(439, 1)]));
-    assert!(calls::plan_of(&k_words()[..445]).is_none() && calls::plan_of(&[]).is_none());
-    assert!(calls::plan_of(&[k_words(), vec![0]].concat()).is_none());
+    assert!([0, 1, u64::MAX].iter().all(|&word| calls::plan_of(&[word; 446]).is_none()));
 }
 
 /// "Order 7, 9, 8."
@@ -690,50 +684,86 @@ fn words_that_are_no_plan() {
 fn order_of_refusals() {
     let plan = k();
     let length = fault_length(&plan);
-    let call = |plan: Option<&Plan>, good: &mut [u16], mask: u64, faults: usize| {
-        let (mut counters, mut cells, mut place) = ([9; 7], [9; 224], [9]);
-        let rows = (&mut counters, &mut cells);
+    let call = |plan: Option<&Plan>, system: &mut [u64], mask: u64, faults: usize| {
+        let (before, mut place, mut agreement) = (system.to_vec(), [9], 9);
         let faults = vec![0; faults];
-        let mut agreement = 9;
-        let gives = (&mut place, &mut agreement);
-        let answer =
-            calls::system_frame(plan, rows.0, rows.1, good, &[0], mask, &faults, gives.0, gives.1);
-        assert!(answer == 0 || (counters, cells, place) == ([9; 7], [9; 224], [9]));
+        let given = (&mut place, &mut agreement);
+        let answer = calls::system_frame(plan, system, &[0], mask, &faults, given.0, given.1);
+        assert!(answer == 0 || (system.to_vec(), place) == (before, [9]));
         assert_eq!(agreement > 0, answer == 0 && mask != 7);
         // Node 3 and cell 2 are past the plan's.
-        assert!((counters[3], cells[2], cells[96]) == (9, 9, 9));
+        assert!((system[99], system[3], system[132]) == (9, 9, 9));
         answer
     };
-    assert_eq!(call(None, &mut [4; 7], 8, 0), 7);
-    assert_eq!(call(Some(&plan), &mut [4; 7], 0, 0), 9);
-    assert_eq!(call(Some(&plan), &mut [3; 7], 8, 0), 9);
-    assert_eq!(call(Some(&plan), &mut [3; 7], 7, length - 1), 8);
-    assert_eq!(call(Some(&plan), &mut [4; 6], 0, length), 8);
-    assert_eq!(call(Some(&plan), &mut [4; 6], 8, length), 9);
-    let mut good = [3, 1, 0, 9, 9, 9, 9];
-    assert_eq!((call(Some(&plan), &mut good, 1, length), good), (0, [0, 2, 1, 9, 9, 9, 9]));
-    assert_eq!(call(Some(&plan), &mut [3; 7], 7, length), 0);
+    assert_eq!(call(None, &mut system_words(3, 4), 8, 0), 7);
+    assert_eq!(call(Some(&plan), &mut system_words(3, 4), 0, 0), 9);
+    assert_eq!(call(Some(&plan), &mut system_words(3, 3), 8, 0), 9);
+    assert_eq!(call(Some(&plan), &mut system_words(3, 3), 7, length - 1), 8);
+    let mut system = system_words(3, 3);
+    system[231..234].copy_from_slice(&[3, 1, 0]);
+    assert_eq!(call(Some(&plan), &mut system, 1, length), 0);
+    assert_eq!(system[231..], [0, 2, 1, 9, 9, 9, 9]);
+    assert_eq!(call(Some(&plan), &mut system_words(3, 3), 7, length), 0);
     let mut count = 5;
-    assert_eq!(
-        (calls::system_working(Some(&plan), &[3, 2, 3, 9, 9, 9, 9], 1, &mut count), count),
-        (0, 1)
-    );
-    assert_eq!((calls::system_working(Some(&plan), &[3; 8], 0, &mut count), count), (8, 0));
+    system[231..234].copy_from_slice(&[3, 2, 3]);
+    assert_eq!((calls::system_working(Some(&plan), &system, 1, &mut count), count), (0, 1));
+}
+
+/// A counter counts by its low 16 bits, a good count above 65,535 as 65,535; what is written is
+/// the record's, what is past the nodes and cells stays, high bits too.
+#[test]
+fn any_words_are_a_record() {
+    let (plan, sensor, high) = (k(), [5], MINUS | 1 << 16);
+    let memory = |counter: u64| {
+        let mut words = vec![high; 33];
+        words[..3].copy_from_slice(&[counter, 7, 8]);
+        words
+    };
+    for counter in [0, 65_536, high, MINUS] {
+        let mut words = memory(counter);
+        assert_eq!(calls::node_compute(Some(&plan), &mut words, &sensor), 0);
+        assert_eq!((&words[..3], &words[3..]), (&[1, 5, 8][..], &[high; 30][..]));
+        let mut words = memory(counter);
+        assert_eq!(calls::node_compute(Some(&plan), &mut words, &[]), 8);
+        assert_eq!(words, memory(counter));
+        let mut bytes = [9; 18];
+        assert_eq!(calls::node_message(Some(&plan), &words, &mut bytes), 0);
+        // Counter 0 is after frame 1, in which cell 1 is voted.
+        assert_eq!(bytes, message(0, [0, 8]));
+        let (mut system, mut count) = (system_words(3, 3), 9);
+        (0..7).for_each(|node| system[33 * node..33 * node + 33].copy_from_slice(&memory(0)));
+        assert_eq!((calls::system_equal(Some(&plan), &system, &words, &mut count), count), (0, 3));
+    }
+    // 3 is R; the same in the low 16 bits is not.
+    for (good, answer) in [(3, 0), (4, 9), (65_535, 9), (65_539, 9), (MINUS | 3, 9)] {
+        let mut count = 9;
+        let counted = calls::system_working(Some(&plan), &system_words(3, good), 0, &mut count);
+        assert_eq!((counted, count), (answer, if answer == 0 { 3 } else { 0 }));
+        // Past the nodes it is not looked at.
+        let mut system = system_words(3, 3);
+        system[234] = good;
+        assert_eq!((calls::system_working(Some(&plan), &system, 1, &mut count), count), (0, 2));
+    }
+    let mut words = memory(high);
+    assert_eq!(calls::node_power_on(Some(&plan), &mut words), 0);
+    assert_eq!(words, vec![0; 33]);
+    let mut words = vec![high; 238];
+    assert_eq!(calls::system_power_on(Some(&plan), &mut words), 0);
+    assert_eq!(words, [vec![0; 231], vec![3, 3, 3, 0, 0, 0, 0]].concat());
+    assert_eq!((calls::system_power_on(None, &mut words), words[231]), (7, 3));
 }
 
 /// The agreement is 0 beside 7 and 8.
 #[test]
 fn agreement_beside_a_refusal() {
     let (plan, bins) = (k(), message(0, [0, 7]).repeat(3));
-    let vote = |plan: Option<&Plan>, cells: usize, bytes: usize| {
-        let (mut counter, mut cells, mut agreement) = (1, vec![9; cells], 5);
-        let bins = &bins[..bytes];
-        (calls::node_vote(plan, &mut counter, &mut cells, bins, &mut agreement), agreement)
+    let vote = |plan: Option<&Plan>, bytes: usize| {
+        let (mut memory, mut agreement) = ([9; 33], 5);
+        (calls::node_vote(plan, &mut memory, &bins[..bytes], &mut agreement), agreement)
     };
-    assert_eq!(vote(Some(&plan), 32, 54), (0, 3));
-    assert_eq!(vote(None, 32, 54), (7, 0));
-    assert_eq!(vote(Some(&plan), 31, 54), (8, 0));
-    assert_eq!(vote(Some(&plan), 32, 53), (8, 0));
+    assert_eq!(vote(Some(&plan), 54), (0, 3));
+    assert_eq!(vote(None, 54), (7, 0));
+    assert_eq!(vote(Some(&plan), 53), (8, 0));
 }
 
 /// K's run, with this mask in frame 1: document 01 has 4.
@@ -756,6 +786,99 @@ const K_LISTING: &str = "       0   3   3                   0   3
 
 fn printed(plan: &[u8], run: &[u8]) -> String {
     String::from_utf8(listing(plan, run).bytes).unwrap()
+}
+
+/// What a call for a run's next line answers and gives, with a place of 41 bytes: K's line has as
+/// many.
+fn next_line(run: &mut [u64], rest: &[u8]) -> (u64, usize, String) {
+    let (plan, mut place, mut count) = (k(), vec![b'.'; 44], 9);
+    let answer = calls::listing_next(Some(&plan), run, rest, &mut place[..41], &mut count);
+    assert_eq!(place[41..], *b"...");
+    assert!(answer == 0 && count > 0 || place == [b'.'; 44]);
+    (answer, count, String::from_utf8(place[..count].to_vec()).unwrap())
+}
+
+fn refusal_line(answer: u64, room: usize) -> (u64, usize, String) {
+    let (mut place, mut count) = (vec![b'.'; room], 9);
+    let given = calls::listing_refusal(answer, &mut place, &mut count);
+    (given, count, String::from_utf8(place).unwrap())
+}
+
+/// K's listing call by call: the run at power-on, a line each, the end, and a line that is refused.
+#[test]
+fn listing_of_k_by_calls() {
+    let (mut plan, mut run) = (vec![7; 446], vec![7; 273]);
+    let other = plan_text(&without(&K, 6));
+    assert_eq!(calls::listing_start(&other, &mut plan, &mut run), 6);
+    assert_eq!((&plan[..], &run[..]), (&[7; 446][..], &[7; 273][..]));
+    assert_eq!(calls::listing_start(&plan_text(&K), &mut plan, &mut run), 0);
+    assert_eq!(plan, k_words());
+    assert_eq!(run, [vec![0; 231], vec![3, 3, 3, 0, 0, 0, 0], vec![0; 33], vec![3, 0]].concat());
+    let text = k_run(4);
+    let (mut rest, mut out) = (&text[..], String::new());
+    for frame in 0..6 {
+        // The R of the run counts for nothing, and the plan's is written.
+        run[271] = frame;
+        let (answer, count, line) = next_line(&mut run, rest);
+        assert_eq!((answer, count, run[271], run[272]), (0, 41, 3, frame + 1));
+        out += &line;
+        rest = &rest[29..];
+    }
+    assert_eq!((out.as_str(), rest), (K_LISTING, &b""[..]));
+    let mut words = run.clone();
+    (words[0], words[99], words[238], words[271]) = (1 << 16, 1 << 16, 1 << 16, 8);
+    // At the end nothing is run.
+    assert_eq!(next_line(&mut words, rest), (0, 0, String::new()));
+    assert_eq!((words[0], words[99], words[238], words[271], words[272]), (0, 1 << 16, 0, 8, 6));
+    let before = words.clone();
+    let refused = |run: &mut [u64], rest: &[u8], number: u64, line: u64| {
+        assert_eq!(next_line(run, rest), (number + 256 * line, 0, String::new()));
+    };
+    refused(&mut words, b"\n", 10, 7);
+    refused(&mut words, &text[..28], 10, 7);
+    refused(&mut words, &k_run(8)[29..], 10, 7);
+    assert_eq!(words, before);
+    // The last frame is 99,999.
+    words[272] = 99_999;
+    assert_eq!(next_line(&mut words, &text).0, 0);
+    assert_eq!(words[272], 100_000);
+    for frame in [100_000, 100_001, 1 << 32, 1 << 63, u64::MAX] {
+        words[272] = frame;
+        refused(&mut words, &text, 10, 100_001);
+        assert_eq!(next_line(&mut words, b"").0, 0);
+        assert_eq!(words[272], frame);
+    }
+    // 7, 9, 8, then 10.
+    let call = |plan: Option<&Plan>, run: &mut [u64], room: usize| {
+        let (mut place, mut count) = (vec![b'.'; room], 9);
+        (calls::listing_next(plan, run, b"x", &mut place, &mut count), count)
+    };
+    assert_eq!(call(Some(&k()), &mut words, 41), (10 + 256 * 100_001, 0));
+    assert_eq!(call(Some(&k()), &mut words, 40), (8, 0));
+    words[233] = 65_539;
+    assert_eq!(call(Some(&k()), &mut words, 40), (9, 0));
+    assert_eq!(call(None, &mut words, 40), (7, 0));
+}
+
+/// "A refusal prints number (4) and line (8)."
+#[test]
+fn lines_of_refusals() {
+    let of = |text: &str| (0, 13, String::from(text));
+    assert_eq!(refusal_line(10 + 256 * 100_001, 13), of("  10  100001\n"));
+    assert_eq!(refusal_line(3 + 256, 15), of("   3       1\n.."));
+    assert_eq!(refusal_line(6, 13), of("   6       0\n"));
+    assert_eq!(refusal_line(11, 13), of("  11       0\n"));
+    // No call gives these: 3 is of line 1, and 6 to 9 have none.
+    assert_eq!(refusal_line(3 + 256 * 7, 13), of("   3       1\n"));
+    assert_eq!(refusal_line(9 + 256 * 7, 13), of("   9       0\n"));
+    assert_eq!(refusal_line(2 + 256 * 1_234_567_890, 13), of("   234567890\n"));
+    assert_eq!(refusal_line(2 + 256 * 100_000_001, 13), of("   200000001\n"));
+    for answer in [0, 12, 255, 256, 12 + 256 * 7] {
+        assert_eq!(refusal_line(answer, 14), (0, 0, ".".repeat(14)));
+    }
+    for answer in [0, 1, 10, 12] {
+        assert_eq!(refusal_line(answer, 12), (8, 0, ".".repeat(12)));
+    }
 }
 
 #[test]

@@ -418,6 +418,51 @@ fn first_use(work: &Work) -> Result<(), String> {
     )
 }
 
+/// The library of two families in a repository with an rt that proves nothing: the crates that they
+/// share are shown once, and the archive has the objects of both.
+fn library(work: &Work) -> Result<(), String> {
+    let view = work.tree.root.join("target/view/ragbasalt");
+    let error = |error: std::io::Error| error.to_string();
+    work.file(
+        "library/crates.txt",
+        "plan:\nragbasalt_a: plan\nnode: plan\nragbasalt_b: plan node\n",
+    )?;
+    work.file("library/crates/plan/src/lib.rt", "")?;
+    let script = fs::read(work.tree.root.join(".ci/library")).map_err(error)?;
+    work.file("library/.ci/library", script)?;
+    let rt = "#!/bin/sh\n[ $1 = staticlib ] || exit 1\necho noise >&2\nmkdir -p target/staticlib\n\
+        if [ $2 = ragbasalt_a ]; then echo 'rt: plan proved (1 s)'\n\
+        else echo 'rt: plan proved (unchanged since it was last proved)'; echo 'rt: node proved (2 s)'; fi\n\
+        echo $2 >$2.o; ar rc target/staticlib/lib$2.a $2.o\n\
+        echo \"rt: target/staticlib/lib$2.a has the functions of $2 that are marked so\"\n";
+    let rt = work.file("library/bin/rt", rt)?;
+    fs::set_permissions(&rt, fs::Permissions::from_mode(0o755)).map_err(error)?;
+    let root = work.folder.join("library");
+    let path =
+        format!("{}:{}", root.join("bin").display(), std::env::var("PATH").unwrap_or_default());
+    let call = || outcome(Command::new(&view).arg(&root).arg("library").env("PATH", &path));
+    let first = call();
+    let wanted =
+        "ragbasalt: proving and building the library; from nothing this takes some minutes\n\
+        ragbasalt:  1 of 4 plan proved (1 s), log target/prove.log\n\
+        ragbasalt:  2 of 4 ragbasalt_a built, log target/prove.log\n\
+        ragbasalt:  3 of 4 node proved (2 s), log target/prove.log\n\
+        ragbasalt:  4 of 4 ragbasalt_b built, log target/prove.log\n";
+    same("the library", (first.status, first.errors.as_str()), (0, wanted))?;
+    let archive = root.join("target/staticlib/libragbasalt.a");
+    let named = first.out.starts_with(&format!("{}\n", archive.display()));
+    same("the library", named && first.out.contains("include/ragbasalt.h\n"), true)?;
+    let members = outcome(Command::new("ar").arg("t").arg(&archive));
+    same("the archive", members.out.as_str(), "ragbasalt_a.o\nragbasalt_b.o\n")?;
+    same("the library again", (call().status, call().errors.as_str()), (0, ""))?;
+    fs::remove_file(&archive).map_err(error)?;
+    work.file("library/bin/rt", "#!/bin/sh\necho 'no proof'\nexit 3\n")?;
+    let failed = call();
+    let last = failed.errors.lines().last().unwrap_or_default();
+    let words = "ragbasalt: bash .ci/library failed; target/prove.log has why";
+    same("a library that is not proved", (failed.status, last), (2, words))
+}
+
 pub fn all(tree: &Tree) -> Tested {
     let folder = tree.root.join("target/view/work");
     let _ = fs::remove_dir_all(&folder);
@@ -430,6 +475,7 @@ pub fn all(tree: &Tree) -> Tested {
         named_folders,
         streams,
         first_use,
+        library,
     ] {
         part(work)?;
     }

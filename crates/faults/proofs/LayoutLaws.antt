@@ -21,8 +21,9 @@ use Rattle.array.proofs.PlacedLaws.{placed-length, placed-in, placed-before, pl
 use Rattle.plan.specs.declared.Plan.{Plan}
 use Rattle.plan.specs.declared.Sizes.{Sizes}
 use Rattle.plan.specs.Limits.{mostNodes}
-use Rattle.plan.specs.Sizes.{sizesOf}
-use Rattle.plan.proofs.AcceptedLaws.{Shape}
+use Rattle.plan.specs.Sizes.{sizesWith, sizesOf}
+use Rattle.plan.specs.Accepted.{accepted}
+use Rattle.plan.proofs.AcceptedLaws.{Shape, shape-of-accepted}
 use Rattle.memory.specs.Size.{binBytes}
 use Rattle.memory.proofs.StepLaws.{bin-ends}
 use Rattle.system.specs.Fault.{faultSize, faultsSize, faultAt}
@@ -33,6 +34,11 @@ use Rattle.faults.specs.Code.{Small, Parts, Held, BadHold}
 
 pub small-of-shape : (p : Plan) → Shape p → Small (sizesOf p)
 small-of-shape p h = record { nodes = h .nodes-high; cells = h .cells-le; actuators = h .actuators-le }
+
+pub small-numbers : (p : Plan) → accepted p ≡ true → {r : ℕ} {s : Sizes} → s ≡ sizesWith p r → Small s
+small-numbers p a {r} e =
+    let h = shape-of-accepted p a in
+    subst Small (sym e) (record { nodes = h .nodes-high; cells = h .cells-le; actuators = h .actuators-le })
 
 -- the longest part: 258 + 7 × 258 + 64
 abbrev pub mostPart : ℕ

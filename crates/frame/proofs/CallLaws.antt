@@ -15,14 +15,13 @@ use Rattle.answer.proofs.TestLaws.{AllNamed, named-by, answered-number}
 use Rattle.plan.specs.declared.Plan.{Plan}
 use Rattle.plan.specs.declared.Sizes.{Sizes}
 use Rattle.plan.specs.Accepted.{accepted}
-use Rattle.plan.specs.Sizes.{sizesWith, sizesOf}
-use Rattle.plan.proofs.AcceptedLaws.{shape-of-accepted}
+use Rattle.plan.specs.Sizes.{sizesOf}
 use Rattle.system.specs.Fault.{faultsSize}
 use Rattle.system.specs.declared.System.{System}
 use Rattle.system.specs.declared.Framed.{Framed}
 use Rattle.system.specs.Frame.{systemAfter, placeAfter, frameAgreement}
 use Rattle.system.specs.FrameCall.{maskOk, countsOk, lengthsOk, frameTests, frameAnswer, framePlace}
-use Rattle.faults.specs.Code.{Small, Parts}
+use Rattle.faults.specs.Code.{Parts}
 use Rattle.faults.proofs.LayoutLaws.{parts-all}
 
 -- ---- a frame
@@ -62,11 +61,6 @@ module _ (p : Plan) (sys : System) (sensors : List ℕ) (mask : ℕ) (faults pla
   frame-number = answered-number (frameTests p sys sensors mask faults place) (named-by InvalidPlan _, (named-by MaskOrCount _, (named-by WrongLength _, tt)))
 
 -- ---- the fault bytes of the exact length have every part
-
-pub small-numbers : (p : Plan) → accepted p ≡ true → {r : ℕ} {s : Sizes} → s ≡ sizesWith p r → Small s
-small-numbers p a {r} e =
-    let h = shape-of-accepted p a in
-    subst Small (sym e) (record { nodes = h .nodes-high; cells = h .cells-le; actuators = h .actuators-le })
 
 pub parts-exact : (p : Plan) {s : Sizes} (mask len : ℕ) → s ≡ sizesOf p → len ≡ faultsSize (sizesOf p) → Parts s mask len
 parts-exact p mask len e l = subst (λ (z : Sizes). Parts z mask len) (sym e) (parts-all (sizesOf p) mask len (omega arith))

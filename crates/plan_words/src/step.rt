@@ -368,3 +368,12 @@ pub fn put(plan: Plan, words: &mut [u64])
     put_votes(&plan.voted, &mut words[VOTES..ACTUATORS]);
     put_actuators(&plan.actuator_cell, &mut words[ACTUATORS..SIZE]);
 }
+
+pub fn words(plan: Plan) -> [u64; SIZE]
+    requires { ⌜ accepted plan ≡ true ⌝ }
+    ensures { λ r. ⌜ r ≡ planWords plan ⌝ }
+{
+    let mut words = [0u64; SIZE];
+    put(plan, &mut words);
+    words
+}

@@ -1,1 +1,3 @@
-pub mod WordsLaws
+pub mod CodeLaws
+pub mod RecordLaws
+pub mod GivenLaws

@@ -1,48 +1,79 @@
--- Answers, memories and system records as numbers and words, for callers that hand over nothing else. This layout is ours; document 01 has none.
-use mathlib.Core.Bool.{Bool, cond, _&&_}
-use mathlib.Core.List.{List, [], _∷_}
-use Prim.Native.Nat.{ℕ, _+_, _*_, _%_, _^_}
+-- Answers, memories and system records as 64-bit words, for callers that hand over nothing else. This layout is ours; document 01 has none. Any words are some memory, and some record.
+use mathlib.Core.Bool.{cond}
+use mathlib.Core.List.{List}
+use Prim.Native.Nat.{ℕ, zero, suc, _+_, _*_, _%_, _^_, min}
 use lib.Dec.{eqb}
-use lib.ListN.{length, getD, take, drop, replicate}
-use Rattle.array.specs.Index.{fill, joined}
+use lib.ListN.{getD, set}
+use Rattle.array.specs.Index.{fill, from}
 use Rattle.answer.specs.declared.Answer.{Answer}
 use Rattle.answer.specs.Refusal.{numberOf, lineOf}
 use Rattle.plan.specs.Limits.{mostNodes, mostCells}
 use Rattle.memory.specs.declared.Memory.{Memory}
 use Rattle.system.specs.declared.System.{System}
 use Rattle.system.specs.System.{zeroSystem}
-use Rattle.system.specs.Frame.{memoryOf}
+use Rattle.system.specs.Frame.{memoryOf, goodOf}
+
+-- ---- an answer
 
 -- number + 256 × line, in 64 bits
 unfoldable pub codeOf : Answer → ℕ
 codeOf a = numberOf a + 256 * lineOf a % 2 ^ 64
 
--- ---- a memory: its counter, and its patterns
+-- words after a call that gives this answer: beside a refusal every one stays
+unfoldable pub ifDone : Answer → List ℕ → List ℕ → List ℕ
+ifDone a new old = cond (eqb (numberOf a) 0) new old
 
-abbrev pub memoryOfWords : ℕ → List ℕ → Memory
-memoryOfWords counter cells = record { counter = counter; cells = cells }
+-- ---- a memory: its counter, then its patterns
 
--- ---- a system: the counters of its nodes, their patterns one node after another, their good counts
+abbrev pub memoryCount : ℕ
+memoryCount = 1 + mostCells
 
-abbrev pub patternCount : ℕ
-patternCount = mostNodes * mostCells
+-- the memory whose words begin at a place: a counter's word counts by its low 16 bits
+unfoldable pub memoryAt : List ℕ → ℕ → Memory
+memoryAt ws at = record { counter = getD ws at 0 % 2 ^ 16; cells = from 0 ws (at + 1) mostCells }
 
-unfoldable pub rowsOk : ℕ → ℕ → ℕ → Bool
-rowsOk counters cells good = eqb counters mostNodes && (eqb cells patternCount && eqb good mostNodes)
+-- a list with f k stored at place at + k for each k below n
+unfoldable pub storedFrom : (ℕ → ℕ) → ℕ → ℕ → List ℕ → List ℕ
+storedFrom f at zero l = l
+storedFrom f at (suc k) l = set (storedFrom f at k l) (at + k) (f k)
 
--- node j's memory
-abbrev pub nodeOfWords : List ℕ → List ℕ → ℕ → Memory
-nodeOfWords counters cells j = record { counter = getD counters j 0; cells = take mostCells (drop (mostCells * j) cells) }
+-- words with those of a memory from a place on
+unfoldable pub withMemory : Memory → ℕ → List ℕ → List ℕ
+withMemory m at ws = storedFrom (λ c. getD (m .cells) c 0) (at + 1) mostCells (set ws at (m .counter))
 
-unfoldable pub systemOfWords : List ℕ → List ℕ → List ℕ → System
-systemOfWords counters cells good = record { memories = fill (nodeOfWords counters cells) mostNodes (zeroSystem .memories); good = good }
+-- a memory's words after a call that gives this answer and this memory
+unfoldable pub memoryGiven : Answer → Memory → List ℕ → List ℕ
+memoryGiven a m ws = ifDone a (withMemory m 0 ws) ws
 
-unfoldable pub countersOf : System → List ℕ
-countersOf sys = joined (λ j. memoryOf sys j .counter ∷ []) mostNodes
+-- ---- a system: the memories of its nodes, then their good counts
 
-unfoldable pub patternsOf : System → List ℕ
-patternsOf sys = joined (λ j. memoryOf sys j .cells) mostNodes
+-- where node j's memory begins
+abbrev pub nodeAt : ℕ → ℕ
+nodeAt j = memoryCount * j
 
--- a record for the good counts alone; counts of another length are no counts
-unfoldable pub countsAlone : List ℕ → System
-countsAlone good = record { memories = zeroSystem .memories; good = cond (eqb (length good) mostNodes) good (replicate mostNodes 0) }
+abbrev pub goodAt : ℕ
+goodAt = memoryCount * mostNodes
+
+abbrev pub systemCount : ℕ
+systemCount = goodAt + mostNodes
+
+-- a good count above 65,535 reads as 65,535, which is above every recovery period
+unfoldable pub goodIn : List ℕ → ℕ → ℕ
+goodIn ws j = min (getD ws (goodAt + j) 0) 65535
+
+unfoldable pub systemOfWords : List ℕ → System
+systemOfWords ws =
+    record { memories = fill (λ j. memoryAt ws (nodeAt j)) mostNodes (zeroSystem .memories); good = fill (goodIn ws) mostNodes (zeroSystem .good) }
+
+-- words with those of the memories of the first n nodes
+unfoldable pub withMemories : System → ℕ → List ℕ → List ℕ
+withMemories sys zero ws = ws
+withMemories sys (suc j) ws = withMemory (memoryOf sys j) (nodeAt j) (withMemories sys j ws)
+
+-- words with those of the first n nodes of a record; all others stay
+unfoldable pub withSystem : ℕ → System → List ℕ → List ℕ
+withSystem n sys ws = storedFrom (goodOf sys) goodAt n (withMemories sys n ws)
+
+-- a system's words after a call on a plan of n nodes that gives this answer and this record
+unfoldable pub systemGiven : Answer → ℕ → System → List ℕ → List ℕ
+systemGiven a n sys ws = ifDone a (withSystem n sys ws) ws

@@ -1,18 +1,22 @@
-// From words to records and back, for callers that know the lengths to be right.
+// From words to records and back, for any words. A word past the end of a slice reads as 0, and none is stored there: so nothing has to be known of a slice's length, which is lost
+// where an array is lent as a slice. The compiler knows it and makes no test.
 ghost use mathlib.Core.Path.{_≡_};
-ghost use mathlib.Core.Bool.{true};
-ghost use Prim.Native.Nat.{_*_, _<_};
-ghost use lib.ListN.{length, set};
-ghost use Rattle.array.specs.Code.{placed};
-ghost use Rattle.plan.specs.Limits.{mostNodes, mostCells};
-ghost use Rattle.system_words.specs.Words.{codeOf, memoryOfWords, patternCount, rowsOk, nodeOfWords, systemOfWords, countersOf, patternsOf, countsAlone};
+ghost use Prim.Native.Nat.{_%_, _<_, _≤_, min};
+ghost use lib.ListN.{getD, set};
+ghost use Rattle.plan.specs.Limits.{mostNodes};
+ghost use Rattle.answer.specs.Refusal.{numberOf};
+ghost use Rattle.system_words.specs.Words.{codeOf, memoryAt, withMemory, systemCount, systemOfWords, withMemories, withSystem, memoryGiven, systemGiven};
 use answer::Answer;
 use memory::Memory;
 use plan::Plan;
 use system::System;
 
-// The patterns of a system.
-pub const PATTERNS: usize = System::NODES * Plan::CELLS;
+// The words of a memory; where the good counts of a system stand; the words of a system.
+pub const MEMORY: usize = 1 + Plan::CELLS;
+
+pub const GOOD: usize = MEMORY * System::NODES;
+
+pub const SYSTEM: usize = GOOD + System::NODES;
 
 pub fn code(answer: Answer) -> u64
     ensures { λ r. ⌜ r ≡ codeOf answer ⌝ }
@@ -20,128 +24,122 @@ pub fn code(answer: Answer) -> u64
     answer.number() as u64 + ((answer.line() as u64) << 8)
 }
 
-// ---- a memory
-
-pub fn memory(counter: u16, cells: &[u64]) -> Memory
-    requires { ⌜ length (now cells) ≡ mostCells ⌝ }
-    ensures { λ r. ⌜ r ≡ memoryOfWords counter (now (cells .entry)) ⌝ }
+pub fn word(words: &[u64], i: usize) -> u64
+    ensures { λ r. ⌜ r ≡ getD (now (words .entry)) i 0 ⌝ }
 {
-    let mut values = [0u64; Plan::CELLS];
-    array::step::copy(cells, &mut values);
-    Memory {
-        counter,
-        cells: values,
+    if i < words.len() {
+        return words[i];
+    }
+    0
+}
+
+pub fn put_word(words: &mut [u64], i: usize, x: u64)
+    ensures { λ _. ⌜ now (words .exit) ≡ set (now (words .entry)) i x ⌝ }
+{
+    if i < words.len() {
+        words[i] = x;
     }
 }
 
-pub fn put_memory(memory: Memory, counter: &mut u16, cells: &mut [u64])
-    requires { ⌜ length (now cells) ≡ mostCells ⌝ }
-    ensures { λ _. ⌜ (now (counter .exit) ≡ memory .counter) × (now (cells .exit) ≡ memory .cells) ⌝ }
+// ---- a memory, whose words begin at a place
+
+fn low(x: u64) -> u16
+    ensures { λ r. ⌜ r ≡ x % 65536 ⌝ }
 {
-    let values = memory.cells;
-    *counter = memory.counter;
-    array::step::copy(&values, cells);
+    (x % 65536) as u16
+}
+
+pub fn memory(words: &[u64], at: usize) -> Memory
+    requires { ⌜ at ≤ systemCount ⌝ }
+    ensures { λ r. ⌜ r ≡ memoryAt (now (words .entry)) at ⌝ }
+{
+    let mut cells = [0u64; Plan::CELLS];
+    let mut c: usize = 0;
+    while c < Plan::CELLS {
+        cells[c] = word(words, at + 1 + c);
+        c += 1;
+    }
+    let counter = low(word(words, at));
+    Memory { counter, cells }
+}
+
+pub fn put_memory(memory: Memory, at: usize, words: &mut [u64])
+    requires { ⌜ at ≤ systemCount ⌝ }
+    ensures { λ _. ⌜ now (words .exit) ≡ withMemory memory at (now (words .entry)) ⌝ }
+{
+    put_word(words, at, memory.counter as u64);
+    let mut c: usize = 0;
+    while c < Plan::CELLS {
+        put_word(words, at + 1 + c, memory.cells[c]);
+        c += 1;
+    }
 }
 
 // ---- a system
 
-pub fn rows_ok(counters: usize, cells: usize, good: usize) -> bool
-    ensures { λ r. ⌜ r ≡ rowsOk counters cells good ⌝ }
+fn at_most(x: u64) -> u16
+    ensures { λ r. ⌜ r ≡ min x 65535 ⌝ }
 {
-    (counters == System::NODES) & ((cells == PATTERNS) & (good == System::NODES))
+    if x < 65535 { x as u16 } else { 65535 }
 }
 
-fn counts(good: &[u16]) -> [u16; System::NODES]
-    requires { ⌜ length (now good) ≡ mostNodes ⌝ }
-    ensures { λ r. ⌜ r ≡ now (good .entry) ⌝ }
+pub fn system(words: &[u64]) -> System
+    ensures { λ r. ⌜ r ≡ systemOfWords (now (words .entry)) ⌝ }
 {
-    let mut values = [0u16; System::NODES];
-    let mut j: usize = 0;
-    while j < System::NODES {
-        values[j] = good[j];
-        j += 1;
-    }
-    values
-}
-
-// Node j's memory.
-fn node(counters: &[u16], cells: &[u64], j: usize) -> Memory
-    requires { ⌜ (length (now counters) ≡ mostNodes) × (length (now cells) ≡ patternCount) × (j < mostNodes) ⌝ }
-    ensures { λ r. ⌜ r ≡ nodeOfWords (now (counters .entry)) (now (cells .entry)) j ⌝ }
-{
-    let at = Plan::CELLS * j;
-    memory(counters[j], &cells[at..at + Plan::CELLS])
-}
-
-pub fn system(counters: &[u16], cells: &[u64], good: &[u16]) -> System
-    requires { ⌜ rowsOk (length (now counters)) (length (now cells)) (length (now good)) ≡ true ⌝ }
-    ensures { λ r. ⌜ r ≡ systemOfWords (now (counters .entry)) (now (cells .entry)) (now (good .entry)) ⌝ }
-{
-    let values = counts(good);
     let zero = memory::zero_memory();
     let mut memories = [zero; System::NODES];
+    let mut good = [0u16; System::NODES];
     let mut j: usize = 0;
     while j < System::NODES {
-        let m = node(counters, cells, j);
+        let m = memory(words, MEMORY * j);
         memories[j] = m;
+        good[j] = at_most(word(words, GOOD + j));
         j += 1;
     }
-    System {
-        memories,
-        good: values,
-    }
+    System { memories, good }
 }
 
-fn put_good(values: [u16; System::NODES], good: &mut [u16])
-    requires { ⌜ length (now good) ≡ mostNodes ⌝ }
-    ensures { λ _. ⌜ now (good .exit) ≡ values ⌝ }
+fn put_memories(nodes: usize, system: System, words: &mut [u64])
+    requires { ⌜ nodes ≤ mostNodes ⌝ }
+    ensures { λ _. ⌜ now (words .exit) ≡ withMemories system nodes (now (words .entry)) ⌝ }
 {
     let mut j: usize = 0;
-    while j < System::NODES {
-        good[j] = values[j];
-        j += 1;
-    }
-}
-
-// Node j's row.
-fn put_node(m: Memory, j: usize, counters: &mut [u16], cells: &mut [u64])
-    requires { ⌜ (length (now counters) ≡ mostNodes) × (length (now cells) ≡ patternCount) × (j < mostNodes) ⌝ }
-    ensures { λ _. ⌜ (now (counters .exit) ≡ set (now (counters .entry)) j (m .counter)) × (now (cells .exit) ≡ placed (now (cells .entry)) (mostCells * j) (m .cells)) × (length (m .cells) ≡ mostCells) ⌝ }
-{
-    let at = Plan::CELLS * j;
-    let values = m.cells;
-    counters[j] = m.counter;
-    array::step::copy(&values, &mut cells[at..at + Plan::CELLS]);
-}
-
-fn put_memories(system: System, counters: &mut [u16], cells: &mut [u64])
-    requires { ⌜ (length (now counters) ≡ mostNodes) × (length (now cells) ≡ patternCount) ⌝ }
-    ensures { λ _. ⌜ (now (counters .exit) ≡ countersOf system) × (now (cells .exit) ≡ patternsOf system) ⌝ }
-{
-    let mut j: usize = 0;
-    while j < System::NODES {
+    while j < nodes {
         let m = system.memories[j];
-        put_node(m, j, counters, cells);
+        put_memory(m, MEMORY * j, words);
         j += 1;
     }
 }
 
-pub fn put_system(system: System, counters: &mut [u16], cells: &mut [u64], good: &mut [u16])
-    requires { ⌜ rowsOk (length (now counters)) (length (now cells)) (length (now good)) ≡ true ⌝ }
-    ensures { λ _. ⌜ (now (counters .exit) ≡ countersOf system) × (now (cells .exit) ≡ patternsOf system) × (now (good .exit) ≡ system .good) ⌝ }
+// The words of the first nodes of a record; all others stay.
+pub fn put_system(nodes: usize, system: System, words: &mut [u64])
+    requires { ⌜ nodes ≤ mostNodes ⌝ }
+    ensures { λ _. ⌜ now (words .exit) ≡ withSystem nodes system (now (words .entry)) ⌝ }
 {
-    put_memories(system, counters, cells);
-    let values = system.good;
-    put_good(values, good);
+    put_memories(nodes, system, words);
+    let mut j: usize = 0;
+    while j < nodes {
+        let x = system.good[j];
+        put_word(words, GOOD + j, x as u64);
+        j += 1;
+    }
 }
 
-pub fn counts_alone(good: &[u16]) -> System
-    ensures { λ r. ⌜ r ≡ countsAlone (now (good .entry)) ⌝ }
+// ---- after a call: beside a refusal every word stays
+
+pub fn give_memory(answer: Answer, memory: Memory, words: &mut [u64])
+    ensures { λ _. ⌜ now (words .exit) ≡ memoryGiven answer memory (now (words .entry)) ⌝ }
 {
-    let mut system = System::zero();
-    if good.len() == System::NODES {
-        let values = counts(good);
-        system.good = values;
+    if answer.number() == 0 {
+        put_memory(memory, 0, words);
     }
-    system
+}
+
+pub fn give_system(answer: Answer, nodes: usize, system: System, words: &mut [u64])
+    requires { ⌜ (numberOf answer ≡ 0 → nodes ≤ mostNodes) ⌝ }
+    ensures { λ _. ⌜ now (words .exit) ≡ systemGiven answer nodes system (now (words .entry)) ⌝ }
+{
+    if answer.number() == 0 {
+        put_system(nodes, system, words);
+    }
 }

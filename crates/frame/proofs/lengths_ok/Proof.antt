@@ -1,7 +1,7 @@
 -- `frame::lengths_ok` meets its contract.
 use borrow.Author.Needs.{needs}
 use Rattle.system.specs.FrameCall.{lengthsOk}
-use Rattle.frame.proofs.CallLaws.{small-numbers}
+use Rattle.faults.proofs.LayoutLaws.{small-numbers}
 use Rattle.frame.proofs.lengths_ok.Statement.{statement}
 use Rattle.frame.proofs.lengths_ok.Tie as tie
 

@@ -1,7 +1,7 @@
 -- `system_words::step::code` meets its contract.
 use native.Mathlib.Omega.{arith}
 use borrow.Author.Needs.{needs}
-use Rattle.system_words.proofs.WordsLaws.{number-small, sum-fits, code-sum}
+use Rattle.system_words.proofs.CodeLaws.{number-small, sum-fits, code-sum}
 use Rattle.system_words.proofs.step.code.Statement.{statement}
 use Rattle.system_words.proofs.step.code.Tie as tie
 

@@ -1,0 +1,75 @@
+-- Laws of a run as words, and of what the calls on a run give.
+use mathlib.Core.Path.{_≡_, refl, sym, ap, _∙_}
+use mathlib.Core.Bool.{Bool, true, false}
+use mathlib.Core.List.{List, [], _∷_}
+use mathlib.Core.Option.{Option, none, some, Option·getD}
+use Prim.Native.Nat.{ℕ, _≤_}
+use native.Mathlib.Omega.{arith}
+use lib.ListN.{length, getD, set}
+use Rattle.answer.specs.declared.Answer.{Answer}
+use Rattle.answer.specs.declared.Answer.the-variants.{Done}
+use Rattle.answer.specs.Refusal.{numberOf}
+use Rattle.answer.specs.Tests.{Test, test, answerOf, answered, unlessRefused}
+use Rattle.plan.specs.declared.Plan.{Plan}
+use Rattle.plan.specs.Limits.{mostNodes}
+use Rattle.plan.specs.Accepted.{accepted}
+use Rattle.plan.proofs.AcceptedLaws.{shape-of-accepted}
+use Rattle.plan_grammar.specs.Meant.{planOf}
+use Rattle.plan_grammar.specs.Refused.{textRefusal}
+use Rattle.plan_grammar.proofs.RefusedLaws.{refusal-numbered}
+use Rattle.plan_text.proofs.TextLaws.{read-plan}
+use Rattle.memory.specs.declared.Memory.{Memory}
+use Rattle.system.specs.declared.System.{System}
+use Rattle.lines.specs.declared.Run.{Run}
+use Rattle.lines.specs.declared.Printed.{Printed}
+use Rattle.listing_start.specs.declared.Started.{Started}
+use Rattle.listing_start.specs.Answers.{zeroRun, startOf, startAnswer}
+use Rattle.listing.specs.Answers.{lineTest, nextTests, nextAnswer}
+use Rattle.system_words.specs.Words.{memoryAt, withMemory, systemOfWords, withSystem}
+use Rattle.ragbasalt_listing.specs.Words.{singleAt, periodAt, frameAt, runOf, withRun, runGiven}
+
+pub run-made :
+    (p : Plan) (ws : List ℕ) {period frame : ℕ} {system : System} {single : Memory} →
+    period ≡ getD ws periodAt 0 → system ≡ systemOfWords ws → single ≡ memoryAt ws singleAt → frame ≡ getD ws frameAt 0 →
+    _≡_ {A = Run} (record { plan = p; period = period; system = system; single = single; frame = frame }) (runOf p ws)
+unfolding runOf
+run-made p ws a b c d = λ i. record { plan = p; period = a i; system = b i; single = c i; frame = d i }
+
+pub run-put :
+    (n : ℕ) (r : Run) (ws : List ℕ) {a b c d : List ℕ} →
+    a ≡ withSystem n (r .system) ws → b ≡ withMemory (r .single) singleAt a → c ≡ set b periodAt (r .period) → d ≡ set c frameAt (r .frame) → d ≡ withRun n r ws
+unfolding withRun
+run-put n r ws e f g h = h ∙ rw (g, f, e)
+
+-- what a call leaves of a run's words
+module _ {A : Type 0} (answer : A → Answer) (run : A → Run) {o a : A} (made : o ≡ a) where
+  pub run-given : {n k : ℕ} → n ≡ k → (ws : List ℕ) {now : List ℕ} → now ≡ runGiven (answer o) n (run o) ws → now ≡ runGiven (answer a) k (run a) ws
+  run-given {n} e ws h = h ∙ ap (λ (x : A). runGiven (answer x) n (run x) ws) made ∙ ap (λ (m : ℕ). runGiven (answer a) m (run a) ws) e
+
+-- ---- a start that is not refused
+
+module _ (s : List ℕ) where
+  done-accepted : numberOf (startAnswer s .answer) ≡ 0 → accepted (startAnswer s .run .plan) ≡ true
+  unfolding startAnswer startOf unlessRefused
+  done-accepted = cases (textRefusal s) refl
+    where
+      cases : (o : Option Answer) → textRefusal s ≡ o → numberOf (Option·getD o Done) ≡ 0 → accepted (unlessRefused o (startOf (planOf s)) zeroRun .plan) ≡ true
+      cases none q = λ n. read-plan s q
+      cases (some a) q = λ n. absurd (refusal-numbered s a q n)
+
+  pub start-accepted : {o : Started} → o ≡ startAnswer s → {n : ℕ} → n ≡ numberOf (o .answer) → n ≡ 0 → accepted (o .run .plan) ≡ true
+  start-accepted e f z =
+      ap (λ (x : Started). accepted (x .run .plan)) e ∙ done-accepted (sym (ap (λ (x : Started). numberOf (x .answer)) e) ∙ sym f ∙ z)
+
+-- ---- a line that is not refused is of an accepted plan, which has few nodes
+
+first-passed : (x : Bool) (ts : List Test) → numberOf (answered (test 7 x ∷ ts)) ≡ 0 → x ≡ true
+unfolding answered answerOf
+first-passed true ts e = refl
+first-passed false ts e = absurd (omega (arith, e))
+
+pub nodes-few :
+    (r : Run) (rest : List ℕ) (room : ℕ) {o : Printed} → o ≡ nextAnswer r rest room → numberOf (o .answer) ≡ 0 → r .plan .nodes ≤ mostNodes
+unfolding nextAnswer nextTests
+nodes-few r rest room e z =
+    shape-of-accepted (r .plan) (first-passed (accepted (r .plan)) _ (sym (ap (λ (x : Printed). numberOf (x .answer)) e) ∙ z)) .nodes-high

@@ -1,0 +1,83 @@
+-- Laws of memories and records as words: what a loop has read or stored so far.
+use mathlib.Core.Path.{_≡_, refl, sym, ap, _∙_}
+use mathlib.Core.List.{List}
+use Prim.Native.Nat.{ℕ, zero, suc, _+_, _*_, _%_, _^_, _≤_, _<_, min}
+use native.Mathlib.Omega.{arith}
+use native.Mathlib.Numerals.{add-one}
+use lib.ListN.{length, getD, set, replicate, length-set, length-replicate}
+use lib.Seq.{ext-getD}
+use Rattle.array.specs.Index.{fill, from}
+use Rattle.array.proofs.PlacesLaws.{fill-length, fill-in, from-length, from-at}
+use Rattle.plan.specs.Limits.{mostNodes, mostCells}
+use Rattle.memory.specs.declared.Memory.{Memory}
+use Rattle.memory.specs.Node.{zeroMemory}
+use Rattle.system.specs.declared.System.{System}
+use Rattle.system.specs.System.{zeroSystem}
+use Rattle.system.specs.Frame.{memoryOf, goodOf}
+use Rattle.system_words.specs.Words.{memoryAt, storedFrom, withMemory, nodeAt, goodAt, goodIn, systemOfWords, withMemories, withSystem}
+
+-- ---- stored word after word
+
+module _ (f : ℕ → ℕ) (at : ℕ) (l : List ℕ) where
+  pub stored-none : storedFrom f at 0 l ≡ l
+  unfolding storedFrom
+  stored-none = refl
+
+  pub stored-more : {now next : List ℕ} (k : ℕ) → now ≡ storedFrom f at k l → next ≡ set now (at + k) (f k) → next ≡ storedFrom f at (k + 1) l
+  unfolding storedFrom
+  stored-more k e h = rw (add-one k, ← e) h
+
+  pub stored-length : (k : ℕ) → length (storedFrom f at k l) ≡ length l
+  unfolding storedFrom
+  stored-length zero = refl
+  stored-length (suc k) = length-set (storedFrom f at k l) (at + k) (f k) ∙ stored-length k
+
+-- ---- a memory
+
+pub memory-made :
+    (ws : List ℕ) (at : ℕ) {counter : ℕ} {cells : List ℕ} →
+    counter ≡ getD ws at 0 % 65536 →
+    cells ≡ fill (λ c. getD ws (at + 1 + c) 0) mostCells (replicate mostCells 0) →
+    _≡_ {A = Memory} (record { counter = counter; cells = cells }) (memoryAt ws at)
+unfolding memoryAt
+memory-made ws at {counter} {cells} e f =
+    let long : length (fill (λ c. getD ws (at + 1 + c) 0) mostCells (replicate mostCells 0)) ≡ mostCells = fill-length _ mostCells (replicate mostCells 0) ∙ length-replicate {A = ℕ} mostCells 0 in
+    let same : cells ≡ from 0 ws (at + 1) mostCells =
+    f ∙ ext-getD 0 _ _ (long ∙ sym (from-length 0 ws (at + 1) mostCells))
+    (λ i h. fill-in _ mostCells (replicate mostCells 0) i 0 (omega (arith, long)) (omega (arith, long, length-replicate {A = ℕ} mostCells 0)) ∙ sym (from-at 0 ws (at + 1) mostCells i (omega (arith, long)))) in
+    λ i. record { counter = e i; cells = same i }
+
+-- ---- a system
+
+pub good-read : (ws : List ℕ) (j : ℕ) {w r : ℕ} → w ≡ getD ws (goodAt + j) 0 → r ≡ min w 65535 → r ≡ goodIn ws j
+unfolding goodIn
+good-read ws j e h = h ∙ rw e
+
+pub system-made :
+    (ws : List ℕ) {zero : Memory} {memories : List Memory} {good : List ℕ} →
+    zero ≡ zeroMemory →
+    memories ≡ fill (λ j. memoryAt ws (nodeAt j)) mostNodes (replicate mostNodes zero) →
+    good ≡ fill (goodIn ws) mostNodes (replicate mostNodes 0) →
+    _≡_ {A = System} (record { memories = memories; good = good }) (systemOfWords ws)
+unfolding systemOfWords
+system-made ws e f g = rw (f, g, e)
+
+module _ (sys : System) (ws : List ℕ) where
+  pub memories-none : withMemories sys 0 ws ≡ ws
+  unfolding withMemories
+  memories-none = refl
+
+  pub memories-more :
+      {now next : List ℕ} {m : Memory} (j : ℕ) → now ≡ withMemories sys j ws → m ≡ memoryOf sys j → next ≡ withMemory m (nodeAt j) now →
+      next ≡ withMemories sys (j + 1) ws
+  unfolding withMemories
+  memories-more j e f h = rw (add-one j, ← e, ← f) h
+
+  memory-length : (m : Memory) (at : ℕ) (l : List ℕ) → length (withMemory m at l) ≡ length l
+  unfolding withMemory
+  memory-length m at l = stored-length _ (at + 1) _ mostCells ∙ length-set l at (m .counter)
+
+  pub memories-length : (j : ℕ) → length (withMemories sys j ws) ≡ length ws
+  unfolding withMemories
+  memories-length zero = refl
+  memories-length (suc j) = memory-length (memoryOf sys j) (nodeAt j) (withMemories sys j ws) ∙ memories-length j
