@@ -1,4 +1,4 @@
--- Request 2026-04: "plans accepted before keep every answer", call by call (those of the library for C: `ragbasalt`'s EarlierLaws). What a call answers and what it leaves in records
+-- Request 2026-04: "plans accepted before keep every answer", call by call; those of the library for C are by the same tests, at the records of their words. What a call answers and what it leaves in records
 -- and buffers is by its tests (`answered`, `ifPassed`) or by the refusal of its text: but for records and texts of fewer than 3 nodes that are accepted now, these are the ones before.
 use mathlib.Core.Path.{_≡_}
 use mathlib.Core.Bool.{true, _&&_}

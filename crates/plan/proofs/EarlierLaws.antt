@@ -1,4 +1,4 @@
--- Request 2026-04: a record is tested as it was before, unless it is one of fewer than 3 nodes that passes now. Call by call: EarlierLaws of `listing` and `ragbasalt`.
+-- Request 2026-04: a record is tested as it was before, unless it is one of fewer than 3 nodes that passes now. Call by call: EarlierLaws of `listing`.
 use mathlib.Core.Path.{_≡_, refl, _∙_}
 use mathlib.Core.Bool.{Bool, true, false}
 use Prim.Native.Nat.{ℕ, _≤_, _<_}
