@@ -1,9 +1,12 @@
 -- An answer is fixed by its number and its line, and a call's by those of the first test that fails.
-use mathlib.Core.Path.{_≡_, refl, sym, ap, ap₂, _∙_}
-use mathlib.Core.Bool.{Bool, true, false}
+use mathlib.Core.Path.{_≡_, refl, sym, ap, ap₂, subst, _∙_}
+use mathlib.Core.Bool.{Bool, true, false, cond}
 use mathlib.Core.List.{List, [], _∷_}
-use Prim.Native.Nat.{ℕ}
+use mathlib.Core.Option.{Option, none, some, Option·getD}
+use Prim.Native.Nat.{ℕ, _<_}
 use native.Mathlib.Omega.{arith}
+use lib.Dec.{eqb}
+use borrow.Author.Tests.{eqb-true}
 use Rattle.answer.specs.declared.Answer.{Answer}
 use Rattle.answer.specs.declared.Answer.the-variants.{
   Done,
@@ -20,10 +23,18 @@ use Rattle.answer.specs.declared.Answer.the-variants.{
   NodesOrLength,
 }
 use Rattle.answer.specs.Refusal.{numberOf, lineOf}
-use Rattle.answer.specs.Tests.{Test, numberIn, lineIn, passed, answerOf, answered}
+use Rattle.answer.specs.Tests.{refusalOf, Test, numberIn, lineIn, passed, answered}
 
-pub answerOf-back : (a : Answer) → answerOf (numberOf a) (lineOf a) ≡ a
-unfolding answerOf
+split : {X : Type 0} (b : Bool) → (b ≡ true → X) → (b ≡ false → X) → X
+split true f g = f refl
+split false f g = g refl
+
+-- ---- an answer by its number and its line
+
+abbrev answerOf : ℕ → ℕ → Answer
+answerOf number line = Option·getD (refusalOf number line) Done
+
+answerOf-back : (a : Answer) → answerOf (numberOf a) (lineOf a) ≡ a
 answerOf-back Done = refl
 answerOf-back TextLength = refl
 answerOf-back (Malformed line) = refl
@@ -40,42 +51,45 @@ answerOf-back NodesOrLength = refl
 pub answer-fixed : (a b : Answer) → numberOf a ≡ numberOf b → lineOf a ≡ lineOf b → a ≡ b
 answer-fixed a b e f = sym (answerOf-back a) ∙ ap₂ answerOf e f ∙ answerOf-back b
 
--- ---- tests that name a refusal
+-- ---- the refusal with a number has this number, which is not 0
 
-pub record Named (t : Test) : Type 0 where
-  pub refusal : Answer
-  pub number : numberOf refusal ≡ t .number
-  pub line : lineOf refusal ≡ t .line
+abbrev Numbered : ℕ → Option Answer → Type 0
+Numbered n none = Unit {0}
+Numbered n (some a) = (numberOf a ≡ n) × (0 < n)
 
-unfoldable pub AllNamed : List Test → Type 0
-AllNamed [] = Unit {0}
-AllNamed (t ∷ ts) = Named t × AllNamed ts
+first : (n k : ℕ) (a : Answer) (rest : Option Answer) → numberOf a ≡ k → 0 < k → Numbered n rest → Numbered n (cond (eqb n k) (some a) rest)
+first n k a rest e l more = split (eqb n k) (λ t. let same : n ≡ k = eqb-true n k t in rw t (omega arith, omega arith)) (λ t. rw t more)
 
-pub named-by : (a : Answer) (right : Bool) → Named (record { number = numberOf a; line = lineOf a; right = right })
-named-by a right = record { refusal = a; number = refl; line = refl }
+numbered : (n line : ℕ) → Numbered n (refusalOf n line)
+numbered n line =
+    first n 1 TextLength _ refl (omega arith)
+    (first n 2 (Malformed line) _ refl (omega arith)
+    (first n 3 Header _ refl (omega arith)
+    (first n 4 (OutOfOrder line) _ refl (omega arith)
+    (first n 5 (OutOfRange line) _ refl (omega arith)
+    (first n 6 Unrecoverable _ refl (omega arith)
+    (first n 7 InvalidPlan _ refl (omega arith)
+    (first n 8 WrongLength _ refl (omega arith)
+    (first n 9 MaskOrCount _ refl (omega arith)
+    (first n 10 (RunLine line) _ refl (omega arith)
+    (first n 11 NodesOrLength none refl (omega arith) tt))))))))))
 
-named : (t : Test) (n : Named t) → answerOf (t .number) (t .line) ≡ n .refusal
-named t n = ap₂ answerOf (sym (n .number)) (sym (n .line)) ∙ answerOf-back (n .refusal)
+-- ---- a call's tests
 
-split : {X : Type 0} (b : Bool) → (b ≡ true → X) → (b ≡ false → X) → X
-split true f g = f refl
-split false f g = g refl
+test-numbered : (t : Test) → (numberOf (t .refusal) ≡ t .number) × (0 < t .number)
+test-numbered t = subst (Numbered (t .number)) (t .named) (numbered (t .number) (t .line))
 
-pub answered-number : (ts : List Test) → AllNamed ts → numberOf (answered ts) ≡ numberIn ts
-unfolding AllNamed answered numberIn
-answered-number [] n = refl
-answered-number (t ∷ ts) n =
-    let later : numberOf (answered ts) ≡ numberIn ts = answered-number ts (n .1) in
-    split (t .right) (λ e. rw e later) (λ e. rw e (ap numberOf (named t (n .0)) ∙ n .0 .number))
+pub answered-number : (ts : List Test) → numberOf (answered ts) ≡ numberIn ts
+unfolding answered numberIn
+answered-number [] = refl
+answered-number (t ∷ ts) = let later : numberOf (answered ts) ≡ numberIn ts = answered-number ts in split (t .right) (λ e. rw e later) (λ e. rw e (test-numbered t .0))
 
-pub answered-line : (ts : List Test) → AllNamed ts → lineOf (answered ts) ≡ lineIn ts
-unfolding AllNamed answered lineIn
-answered-line [] n = refl
-answered-line (t ∷ ts) n =
-    let later : lineOf (answered ts) ≡ lineIn ts = answered-line ts (n .1) in
-    split (t .right) (λ e. rw e later) (λ e. rw e (ap lineOf (named t (n .0)) ∙ n .0 .line))
+pub answered-line : (ts : List Test) → lineOf (answered ts) ≡ lineIn ts
+unfolding answered lineIn
+answered-line [] = refl
+answered-line (t ∷ ts) = let later : lineOf (answered ts) ≡ lineIn ts = answered-line ts in split (t .right) (λ e. rw e later) (λ e. rw e)
 
--- a call all of whose tests are passed is done
+-- a call all of whose tests are passed is done, and no other is
 pub answered-done : (ts : List Test) → passed ts ≡ true → answered ts ≡ Done
 unfolding passed answered
 answered-done [] e = refl
@@ -85,3 +99,17 @@ answered-done (t ∷ ts) e =
   where
     clash : false ≡ true → ⊥
     clash r = let z : _≡_ {A = ℕ} 0 1 = cc in omega arith
+
+pub answered-refused : (ts : List Test) → passed ts ≡ false → 0 < numberOf (answered ts)
+unfolding passed answered
+answered-refused [] e = absurd (clash e)
+  where
+    clash : true ≡ false → ⊥
+    clash r = let z : _≡_ {A = ℕ} 0 1 = cc in omega arith
+answered-refused (t ∷ ts) e =
+    let later : passed ts ≡ false → 0 < numberOf (answered ts) = answered-refused ts in
+    split (t .right) (λ r. rw r (later (rw r at e))) (λ r. rw r (omega (arith, test-numbered t .0, test-numbered t .1)))
+
+pub first-passed : (t : Test) (ts : List Test) → numberOf (answered (t ∷ ts)) ≡ 0 → t .right ≡ true
+unfolding answered
+first-passed t ts e = split (t .right) (λ r. r) (λ r. absurd (omega (arith, rw r at e, test-numbered t .0, test-numbered t .1)))

@@ -9,9 +9,7 @@ use lib.ListN.{length}
 use borrow.Author.Tests.{eqb-true}
 use Rattle.array.proofs.TestLaws.{and-left, and-right}
 use Rattle.answer.specs.declared.Answer.the-variants.{Done, InvalidPlan, WrongLength, MaskOrCount}
-use Rattle.answer.specs.Refusal.{numberOf}
-use Rattle.answer.specs.Tests.{numberIn, passed, answerOf, answered, ifPassed}
-use Rattle.answer.proofs.TestLaws.{AllNamed, named-by, answered-number}
+use Rattle.answer.specs.Tests.{passed, answered, ifPassed}
 use Rattle.plan.specs.declared.Plan.{Plan}
 use Rattle.plan.specs.declared.Sizes.{Sizes}
 use Rattle.plan.specs.Accepted.{accepted}
@@ -34,17 +32,17 @@ module _ (p : Plan) (sys : System) (sensors : List ℕ) (mask : ℕ) (faults pla
   put = framePlace p sys sensors mask faults place
 
   pub frame-plan : accepted p ≡ false → (record { answer = InvalidPlan; system = sys; agreement = 0 } ≡ framed) × (place ≡ put)
-  unfolding frameAnswer framePlace frameTests answered passed ifPassed answerOf
+  unfolding frameAnswer framePlace frameTests answered passed ifPassed
   frame-plan a = (rw a, rw a)
 
   module _ (a : accepted p ≡ true) where
     pub frame-mask : (maskOk p mask && countsOk p sys) ≡ false → (record { answer = MaskOrCount; system = sys; agreement = 0 } ≡ framed) × (place ≡ put)
-    unfolding frameAnswer framePlace frameTests answered passed ifPassed answerOf
+    unfolding frameAnswer framePlace frameTests answered passed ifPassed
     frame-mask m = (rw (a, m), rw (a, m))
 
     module _ (m : (maskOk p mask && countsOk p sys) ≡ true) where
       pub frame-length : lengthsOk p (length sensors) (length faults) (length place) ≡ false → (record { answer = WrongLength; system = sys; agreement = 0 } ≡ framed) × (place ≡ put)
-      unfolding frameAnswer framePlace frameTests answered passed ifPassed answerOf
+      unfolding frameAnswer framePlace frameTests answered passed ifPassed
       frame-length l = (rw (a, m, l), rw (a, m, l))
 
       pub frame-done :
@@ -52,13 +50,8 @@ module _ (p : Plan) (sys : System) (sensors : List ℕ) (mask : ℕ) (faults pla
           {next : System} {agreed : ℕ} {now : List ℕ} →
           (next ≡ systemAfter p sys sensors mask faults) × (agreed ≡ frameAgreement p sys sensors mask faults) × (now ≡ placeAfter p sys sensors mask faults place) →
           (record { answer = Done; system = next; agreement = agreed } ≡ framed) × (now ≡ put)
-      unfolding frameAnswer framePlace frameTests answered passed ifPassed answerOf
+      unfolding frameAnswer framePlace frameTests answered passed ifPassed
       frame-done l h = (rw (a, m, l, h .0, h .1), rw (a, m, l) (h .2))
-
-  -- the refusal's number is that of the first test that fails
-  pub frame-number : numberOf (framed .answer) ≡ numberIn (frameTests p sys sensors mask faults place)
-  unfolding frameAnswer frameTests AllNamed
-  frame-number = answered-number (frameTests p sys sensors mask faults place) (named-by InvalidPlan _, (named-by MaskOrCount _, (named-by WrongLength _, tt)))
 
 -- ---- the fault bytes of the exact length have every part
 

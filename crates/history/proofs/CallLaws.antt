@@ -8,9 +8,7 @@ use native.Mathlib.Nat.{mul-le-mul-right}
 use lib.ListN.{length, drop}
 use borrow.Author.Tests.{le-leb, lt-leb}
 use Rattle.answer.specs.declared.Answer.the-variants.{Done, InvalidPlan, NodesOrLength, WrongLength}
-use Rattle.answer.specs.Refusal.{numberOf, lineOf}
-use Rattle.answer.specs.Tests.{numberIn, lineIn, passed, answerOf, answered, ifPassed}
-use Rattle.answer.proofs.TestLaws.{AllNamed, named-by, answered-number, answered-line}
+use Rattle.answer.specs.Tests.{passed, answered, ifPassed}
 use Rattle.array.specs.Code.{placed}
 use Rattle.plan.specs.declared.Plan.{Plan}
 use Rattle.plan.specs.Known.{period}
@@ -55,7 +53,7 @@ module _ (p : Plan) (k : ℕ) where
     -- 7
     pub histories-refused :
         accepted p ≡ false → (record { answer = InvalidPlan; count = 0 } ≡ historiesAnswer p k (length out)) × (out ≡ historiesPlace p k out)
-    unfolding historiesAnswer historiesPlace historiesTests answered passed ifPassed answerOf
+    unfolding historiesAnswer historiesPlace historiesTests answered passed ifPassed
     histories-refused e = (rw e, rw e)
 
     module _ (a : accepted p ≡ true) where
@@ -63,7 +61,7 @@ module _ (p : Plan) (k : ℕ) where
       pub histories-outside :
           limitsOk (p .nodes) k ≡ false →
           (record { answer = NodesOrLength; count = 0 } ≡ historiesAnswer p k (length out)) × (out ≡ historiesPlace p k out)
-      unfolding historiesAnswer historiesPlace historiesTests answered passed ifPassed answerOf
+      unfolding historiesAnswer historiesPlace historiesTests answered passed ifPassed
       histories-outside e = (rw (a, e), rw (a, e))
 
       module _ (l : limitsOk (p .nodes) k ≡ true) {count : ℕ} (c : count ≡ length (planHistories p k)) where
@@ -71,7 +69,7 @@ module _ (p : Plan) (k : ℕ) where
         pub histories-short :
             length out < count * k →
             (record { answer = WrongLength; count = 0 } ≡ historiesAnswer p k (length out)) × (out ≡ historiesPlace p k out)
-        unfolding historiesAnswer historiesPlace historiesTests answered passed ifPassed answerOf
+        unfolding historiesAnswer historiesPlace historiesTests answered passed ifPassed
         histories-short s = let t = lt-leb (length (planHistories p k) * k) (length out) (rw c at s) in (rw (a, l, t), rw (a, l, t))
 
         pub histories-done :
@@ -79,14 +77,5 @@ module _ (p : Plan) (k : ℕ) where
             count * k ≤ length out →
             ys ≡ flatten (planHistories p k) ++ drop (length (planHistories p k) * k) out →
             (record { answer = Done; count = count } ≡ historiesAnswer p k (length out)) × (ys ≡ historiesPlace p k out)
-        unfolding historiesAnswer historiesPlace historiesTests answered passed ifPassed answerOf
+        unfolding historiesAnswer historiesPlace historiesTests answered passed ifPassed
         histories-done s f = let t = le-leb (length (planHistories p k) * k) (length out) (rw c at s) in (rw (a, l, t, c), rw (a, l, t) f)
-
--- the refusal's number is that of the first test that fails, and its line 0
-pub histories-number : (p : Plan) (k room : ℕ) → numberOf (historiesAnswer p k room .answer) ≡ numberIn (historiesTests p k room)
-unfolding historiesAnswer historiesTests AllNamed
-histories-number p k room = answered-number (historiesTests p k room) (named-by InvalidPlan _, (named-by NodesOrLength _, (named-by WrongLength _, tt)))
-
-pub histories-line : (p : Plan) (k room : ℕ) → lineOf (historiesAnswer p k room .answer) ≡ lineIn (historiesTests p k room)
-unfolding historiesAnswer historiesTests AllNamed
-histories-line p k room = answered-line (historiesTests p k room) (named-by InvalidPlan _, (named-by NodesOrLength _, (named-by WrongLength _, tt)))

@@ -13,9 +13,7 @@ use borrow.Author.Tests.{eq-eqb, ne-eqb, le-leb, lt-leb}
 use borrow.Rule.Slice.PartMut.{putMid}
 use Rattle.answer.specs.declared.Answer.{Answer}
 use Rattle.answer.specs.declared.Answer.the-variants.{Done, InvalidPlan, WrongLength, MaskOrCount, RunLine}
-use Rattle.answer.specs.Refusal.{numberOf, lineOf}
-use Rattle.answer.specs.Tests.{numberIn, lineIn, passed, answerOf, answered, ifPassed}
-use Rattle.answer.proofs.TestLaws.{AllNamed, named-by, answered-number, answered-line}
+use Rattle.answer.specs.Tests.{passed, answered, ifPassed}
 use Rattle.plan.specs.Known.{period}
 use Rattle.plan.specs.Accepted.{accepted}
 use Rattle.system.specs.FrameCall.{countsOk}
@@ -64,17 +62,17 @@ module _ (r : Run) (rest : List ℕ) (out : List ℕ) (x : Printed) where
   still-is a h t e = rw (t, e) ((λ i. record { answer = h .0 i; count = h .1 i; run = h .2 i }), refl)
 
   pub next-plan : accepted (r .plan) ≡ false → Still InvalidPlan → Answered out
-  unfolding taken nextTests answered passed ifPassed answerOf
+  unfolding taken nextTests answered passed ifPassed
   next-plan a h = still-is InvalidPlan h (rw a) (rw a)
 
   module _ (a : accepted (r .plan) ≡ true) where
     pub next-counts : countsOk (r .plan) (r .system) ≡ false → Still MaskOrCount → Answered out
-    unfolding taken nextTests answered passed ifPassed answerOf
+    unfolding taken nextTests answered passed ifPassed
     next-counts b h = still-is MaskOrCount h (rw (a, b)) (rw (a, b))
 
     module _ (b : countsOk (r .plan) (r .system) ≡ true) where
       pub next-room : length out < printedSize (r .plan .actuators) → Still WrongLength → Answered out
-      unfolding taken nextTests answered passed ifPassed answerOf
+      unfolding taken nextTests answered passed ifPassed
       next-room l h =
           let c : leb (printedSize (r .plan .actuators)) (length out) ≡ false = lt-leb (printedSize (r .plan .actuators)) (length out) l in
           still-is WrongLength h (rw (a, b, c)) (rw (a, b, c))
@@ -84,7 +82,7 @@ module _ (r : Run) (rest : List ℕ) (out : List ℕ) (x : Printed) where
         c = le-leb (printedSize (r .plan .actuators)) (length out) l
 
         pub next-ended : length rest ≡ 0 → Still Done → Answered out
-        unfolding taken nextTests answered passed ifPassed answerOf lineTest
+        unfolding taken nextTests answered passed ifPassed lineTest
         next-ended e h =
             let n : rest ≡ [] = empty-of-length rest e in
             still-is Done h (rw (a, b, c) (kept (eqb (length rest) 0) (nextNumbers r rest) ∙ ap (nextNumbers r) n ∙ nothing-next r)) (rw (a, b, c, eq-eqb (length rest) 0 e))
@@ -97,7 +95,7 @@ module _ (r : Run) (rest : List ℕ) (out : List ℕ) (x : Printed) where
             x ≡ lineTaken r rest →
             to ≡ placeTaken r (nextNumbers r rest) (take (m - 0) out) →
             Answered (putMid 0 (m - 0) out to)
-        unfolding lineTaken takenOr nextAnswer nextPlace taken nextTests lineTest answered passed ifPassed answerOf runTaken placeTaken
+        unfolding lineTaken takenOr nextAnswer nextPlace taken nextTests lineTest answered passed ifPassed runTaken placeTaken
         next-taken {to} {m} v e f g = go (nextNumbers r rest) refl
           where
             n : m - 0 ≡ printedSize (r .plan .actuators)
@@ -116,21 +114,6 @@ module _ (r : Run) (rest : List ℕ) (out : List ℕ) (x : Printed) where
                 drop-of-length-le (take (printedSize (r .plan .actuators)) out) {i = printedSize (r .plan .actuators)} (omega (arith, length-take-le (printedSize (r .plan .actuators)) out l)) in
                 let u : to ≡ line = g ∙ rw (q, n, d) (append-nil line) in
                 (f ∙ rw (a, b, c, q, ne), rw (a, b, c, q, ne, n, u))
-
--- the refusal's number and line are those of the first test that fails
-module _ (r : Run) (rest : List ℕ) (room : ℕ) where
-  next-named : AllNamed (nextTests r rest room)
-  unfolding nextTests lineTest AllNamed
-  next-named =
-      (named-by InvalidPlan _, (named-by MaskOrCount _, (named-by WrongLength _, (named-by (RunLine (min (r .frame) mostRunLines + 1)) _, tt))))
-
-  pub next-number : numberOf (nextAnswer r rest room .answer) ≡ numberIn (nextTests r rest room)
-  unfolding nextAnswer
-  next-number = answered-number (nextTests r rest room) next-named
-
-  pub next-at-line : lineOf (nextAnswer r rest room .answer) ≡ lineIn (nextTests r rest room)
-  unfolding nextAnswer
-  next-at-line = answered-line (nextTests r rest room) next-named
 
 -- ---- the line of a state that is not refused
 

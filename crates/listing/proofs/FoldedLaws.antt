@@ -17,7 +17,7 @@ use Rattle.array.proofs.PlacesLaws.{fill-length, fill-in}
 use Rattle.answer.specs.declared.Answer.{Answer}
 use Rattle.answer.specs.declared.Answer.the-variants.{Done, RunLine}
 use Rattle.answer.specs.Refusal.{numberOf}
-use Rattle.answer.specs.Tests.{passed, answerOf, answered, ifPassed, unlessRefused}
+use Rattle.answer.specs.Tests.{passed, answered, ifPassed, unlessRefused}
 use Rattle.plan.specs.declared.Plan.{Plan}
 use Rattle.plan.specs.Limits.{mostNodes}
 use Rattle.plan.specs.Known.{period}
@@ -129,7 +129,7 @@ module _ (p : Plan) (sys : System) (single : Memory) (first : ℕ) (rest : List 
 
   -- nothing is left
   fold-ended : (n : ℕ) → first ≤ mostRunLines → length rest ≡ 0 → runListing p sys single first rest ≡ printedBy (suc n) state rest
-  unfolding lineTest answered answerOf nextAnswer
+  unfolding lineTest answered nextAnswer
   fold-ended n f e =
       let r : rest ≡ [] = empty-of-length rest e in
       let k : frames p sys single first rest ≡ 0 = ran-ended p sys single first rest (ran-none p sys single first rest [] f) (omega arith) in
@@ -141,7 +141,7 @@ module _ (p : Plan) (sys : System) (single : Memory) (first : ℕ) (rest : List 
   -- the line is refused
   fold-refused :
       (n : ℕ) → (length rest ≡ 0 → ⊥) → first ≤ mostRunLines → nextNumbers state rest ≡ none → runListing p sys single first rest ≡ printedBy (suc n) state rest
-  unfolding lineTest answered answerOf readLine nextNumbers
+  unfolding lineTest answered readLine nextNumbers
   fold-refused n e f q =
       let size : ℕ = runLineSize (p .sensors) in
       let k : frames p sys single first rest ≡ 0 =
@@ -157,7 +157,7 @@ module _ (p : Plan) (sys : System) (single : Memory) (first : ℕ) (rest : List 
       (length rest ≡ 0 → ⊥) →
       nextNumbers state rest ≡ some l →
       printedBy (suc n) state rest ≡ frameLine p sys single first l ++ printedBy n (runAfter state l) (drop (runLineSize (p .sensors)) rest)
-  unfolding lineTest answered answerOf nextAnswer nextPlace placeTaken runTaken
+  unfolding lineTest answered nextAnswer nextPlace placeTaken runTaken
   fold-run n l e q =
       let width : ℕ = printedSize (p .actuators) in
       let t : taken state rest width ≡ some l = next-taken ∙ q in

@@ -5,7 +5,7 @@ use mathlib.Core.Option.{Option, none, some}
 use Prim.Native.Nat.{ℕ, _+_, min}
 use lib.Dec.{eqb, leb}
 use lib.ListN.{length, drop}
-use Rattle.answer.specs.Tests.{Test, test, answered, ifPassed}
+use Rattle.answer.specs.Tests.{Test, testAt, test, answered, ifPassed}
 use Rattle.plan.specs.Accepted.{accepted}
 use Rattle.system.specs.FrameCall.{countsOk}
 use Rattle.run_line.specs.Line.{printedSize}
@@ -19,7 +19,7 @@ use Rattle.lines.specs.Run.{runAfter, nextNumbers}
 -- 10; where nothing is left the listing ends. A frame number from 100,000 on has line 100,001.
 unfoldable pub lineTest : Run → List ℕ → Test
 lineTest r rest =
-    record { number = 10; line = min (r .frame) mostRunLines + 1; right = eqb (length rest) 0 || isSome (nextNumbers r rest) }
+    testAt 10 (min (r .frame) mostRunLines + 1) (eqb (length rest) 0 || isSome (nextNumbers r rest))
 
 -- 7, 9, then 8: "a text buffer too short", then 10
 unfoldable pub nextTests : Run → List ℕ → ℕ → List Test

@@ -11,8 +11,7 @@ use Rattle.array.specs.Code.{placed}
 use Rattle.answer.specs.declared.Answer.{Answer}
 use Rattle.answer.specs.declared.Answer.the-variants.{Done, WrongLength}
 use Rattle.answer.specs.Refusal.{numberOf}
-use Rattle.answer.specs.Tests.{numberIn, passed, answerOf, answered, ifPassed, unlessRefused}
-use Rattle.answer.proofs.TestLaws.{AllNamed, named-by, answered-number}
+use Rattle.answer.specs.Tests.{passed, answered, ifPassed, unlessRefused}
 use Rattle.plan.specs.declared.Plan.{Plan}
 use Rattle.plan.specs.Known.{period}
 use Rattle.plan.specs.Accepted.{accepted}
@@ -40,11 +39,11 @@ use Rattle.listing_start.specs.Answers.{zeroRun, startOf, startAnswer, r
 
 module _ (a : Answer) (out : List ℕ) where
   pub refusal-short : length out < refusalSize → (record { answer = WrongLength; count = 0 } ≡ refusalWritten a (length out)) × (out ≡ refusalPlace a out)
-  unfolding refusalWritten refusalPlace refusalTests answered passed ifPassed answerOf
+  unfolding refusalWritten refusalPlace refusalTests answered passed ifPassed
   refusal-short l = rw (lt-leb refusalSize (length out) l) (refl, refl)
 
   pub refusal-none : refusalSize ≤ length out → numberOf a ≡ 0 → (record { answer = Done; count = 0 } ≡ refusalWritten a (length out)) × (out ≡ refusalPlace a out)
-  unfolding refusalWritten refusalPlace refusalTests answered passed ifPassed answerOf
+  unfolding refusalWritten refusalPlace refusalTests answered passed ifPassed
   refusal-none l e = rw (le-leb refusalSize (length out) l, eq-eqb (numberOf a) 0 e) (refl, refl)
 
   pub refusal-written :
@@ -54,12 +53,8 @@ module _ (a : Answer) (out : List ℕ) where
       length (refusalLine a) ≡ refusalSize →
       to ≡ placed out 0 (refusalLine a) →
       (record { answer = Done; count = refusalSize } ≡ refusalWritten a (length out)) × (to ≡ refusalPlace a out)
-  unfolding refusalWritten refusalPlace refusalTests answered passed ifPassed answerOf
+  unfolding refusalWritten refusalPlace refusalTests answered passed ifPassed
   refusal-written l e k f = rw (le-leb refusalSize (length out) l, ne-eqb (numberOf a) 0 e) (refl, f ∙ rw k)
-
-pub refusal-number : (a : Answer) (room : ℕ) → numberOf (refusalWritten a room .answer) ≡ numberIn (refusalTests room)
-unfolding refusalWritten refusalTests AllNamed
-refusal-number a room = answered-number (refusalTests room) (named-by WrongLength _, tt)
 
 -- ---- start
 

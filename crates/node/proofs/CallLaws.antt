@@ -5,9 +5,7 @@ use Prim.Native.Nat.{ℕ}
 use borrow.Author.Tests.{eq-eqb, ne-eqb}
 use Rattle.answer.specs.declared.Answer.{Answer}
 use Rattle.answer.specs.declared.Answer.the-variants.{Done, InvalidPlan, WrongLength}
-use Rattle.answer.specs.Refusal.{numberOf}
-use Rattle.answer.specs.Tests.{numberIn, passed, answerOf, answered, ifPassed}
-use Rattle.answer.proofs.TestLaws.{AllNamed, named-by, answered-number}
+use Rattle.answer.specs.Tests.{passed, answered, ifPassed}
 use Rattle.plan.specs.declared.Plan.{Plan}
 use Rattle.plan.specs.Accepted.{accepted}
 use Rattle.memory.specs.declared.Memory.{Memory}
@@ -25,18 +23,13 @@ vote-outcome e h = λ i. record { answer = e .0 i; memory = e .1 i; agreement = 
 
 module _ {A : Type 0} (p : Plan) (has wanted : ℕ) (new old : A) where
   pub plan-refused : accepted p ≡ false → (InvalidPlan ≡ lengthChecked p has wanted) × (old ≡ ifPassed (lengthTests p has wanted) new old)
-  unfolding lengthChecked lengthTests answered passed ifPassed answerOf
+  unfolding lengthChecked lengthTests answered passed ifPassed
   plan-refused e = (rw e, rw e)
 
   pub length-refused : accepted p ≡ true → (has ≡ wanted → ⊥) → (WrongLength ≡ lengthChecked p has wanted) × (old ≡ ifPassed (lengthTests p has wanted) new old)
-  unfolding lengthChecked lengthTests answered passed ifPassed answerOf
+  unfolding lengthChecked lengthTests answered passed ifPassed
   length-refused e l = (rw (e, ne-eqb has wanted l), rw (e, ne-eqb has wanted l))
 
   pub call-done : {r : A} → accepted p ≡ true → has ≡ wanted → r ≡ new → (Done ≡ lengthChecked p has wanted) × (r ≡ ifPassed (lengthTests p has wanted) new old)
-  unfolding lengthChecked lengthTests answered passed ifPassed answerOf
+  unfolding lengthChecked lengthTests answered passed ifPassed
   call-done e l h = (rw (e, eq-eqb has wanted l), rw (e, eq-eqb has wanted l) h)
-
--- the refusal's number is that of the first test that fails
-pub length-number : (p : Plan) (has wanted : ℕ) → numberOf (lengthChecked p has wanted) ≡ numberIn (lengthTests p has wanted)
-unfolding lengthChecked lengthTests AllNamed
-length-number p has wanted = answered-number (lengthTests p has wanted) (named-by InvalidPlan _, (named-by WrongLength _, tt))

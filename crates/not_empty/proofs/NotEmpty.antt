@@ -17,7 +17,7 @@ use Rattle.array.proofs.TestLaws.{clash, and-both, and-false-right}
 use Rattle.pattern.specs.Pattern.{sumOf}
 use Rattle.answer.specs.declared.Answer.the-variants.{Done, InvalidPlan, WrongLength, MaskOrCount}
 use Rattle.plan.specs.declared.Op.the-variants.{Take, Sum}
-use Rattle.answer.specs.Tests.{passed, answerOf, answered, ifPassed}
+use Rattle.answer.specs.Tests.{passed, answered, ifPassed}
 use Rattle.plan.specs.declared.Plan.{Plan}
 use Rattle.plan.specs.Known.{reads, readsKnown, knowTask, knowTasks, knowVoted, knowFrame, known, allKnown, periodTo, period}
 use Rattle.plan.specs.Tables.{unusedTask, votedIn}
@@ -215,7 +215,7 @@ unfolding faultMessage varied filled from planK plan
 mixed-messages e = omega (arith, ap (λ (l : List ℕ). getD l 0 0) e)
 
 mixed-calls : callAnswers mixed ≡ Done ∷ InvalidPlan ∷ Done ∷ MaskOrCount ∷ Done ∷ WrongLength ∷ Done ∷ Done ∷ Done ∷ []
-unfolding answered answerOf callAnswers callAnswer callTests callLengths lengthsOk maskOk mixed call varied filled planK planZ plan voteK noVotes
+unfolding answered callAnswers callAnswer callTests callLengths lengthsOk maskOk mixed call varied filled planK planZ plan voteK noVotes
 mixed-calls = rw (planK-accepted, planZ-refused) refl
 
 pub mixed-refusals : answers (powerOn planK) mixed ≡ Done ∷ InvalidPlan ∷ Done ∷ MaskOrCount ∷ Done ∷ WrongLength ∷ Done ∷ Done ∷ Done ∷ []

@@ -7,9 +7,7 @@ use lib.Dec.{eqb}
 use borrow.Author.Tests.{eqb-true, eqb-false, not-true}
 use Rattle.array.proofs.TestLaws.{split, and-right}
 use Rattle.answer.specs.declared.Answer.the-variants.{Done, InvalidPlan}
-use Rattle.answer.specs.Refusal.{numberOf}
-use Rattle.answer.specs.Tests.{numberIn, passed, answerOf, answered, ifPassed}
-use Rattle.answer.proofs.TestLaws.{AllNamed, named-by, answered-number}
+use Rattle.answer.specs.Tests.{passed, answered, ifPassed}
 use Rattle.plan.specs.declared.Plan.{Plan}
 use Rattle.plan.specs.Known.{period}
 use Rattle.plan.specs.Accepted.{wellFormed, accepted}
@@ -54,17 +52,12 @@ module _ (p : Plan) where
   taken f = split (accepted p) (λ t. t) (λ t. absurd (f (rw t)))
 
   pub checked-refused : acceptedPeriod p ≡ 0 → InvalidPlan ≡ checked p
-  unfolding checked planTests answered answerOf
+  unfolding checked planTests answered
   checked-refused z = rw (refused z)
 
   pub checked-done : (acceptedPeriod p ≡ 0 → ⊥) → Done ≡ checked p
-  unfolding checked planTests answered answerOf
+  unfolding checked planTests answered
   checked-done f = rw (taken f)
-
--- the refusal's number is that of the first test that fails
-pub checked-number : (p : Plan) → numberOf (checked p) ≡ numberIn (planTests p)
-unfolding checked planTests AllNamed
-checked-number p = answered-number (planTests p) (named-by InvalidPlan _, tt)
 
 pub period-small : (p : Plan) → accepted p ≡ true → {r : ℕ} → r ≡ period p → r < 65536
 period-small p a e = let s = shape-of-accepted p a in omega (arith, period-bound p, bound-small p s)

@@ -6,9 +6,7 @@ use Prim.Native.Nat.{ℕ, _≤_, _<_}
 use lib.ListN.{length, drop}
 use borrow.Author.Tests.{le-leb, lt-leb}
 use Rattle.answer.specs.declared.Answer.the-variants.{Done, InvalidPlan, WrongLength}
-use Rattle.answer.specs.Refusal.{numberOf}
-use Rattle.answer.specs.Tests.{numberIn, passed, answerOf, answered, ifPassed}
-use Rattle.answer.proofs.TestLaws.{AllNamed, named-by, answered-number}
+use Rattle.answer.specs.Tests.{passed, answered, ifPassed}
 use Rattle.plan.specs.declared.Plan.{Plan}
 use Rattle.plan.specs.Accepted.{accepted}
 use Rattle.plan_grammar.specs.Written.{planText}
@@ -18,7 +16,7 @@ module _ (p : Plan) (out : List ℕ) where
   -- 7
   pub write-refused :
       accepted p ≡ false → (record { answer = InvalidPlan; count = 0 } ≡ writeAnswer p (length out)) × (out ≡ writePlace p out)
-  unfolding writeAnswer writePlace writeTests answered passed ifPassed answerOf
+  unfolding writeAnswer writePlace writeTests answered passed ifPassed
   write-refused e = (rw e, rw e)
 
   -- 8
@@ -26,7 +24,7 @@ module _ (p : Plan) (out : List ℕ) where
       accepted p ≡ true →
       length out < length (planText p) →
       (record { answer = WrongLength; count = 0 } ≡ writeAnswer p (length out)) × (out ≡ writePlace p out)
-  unfolding writeAnswer writePlace writeTests answered passed ifPassed answerOf
+  unfolding writeAnswer writePlace writeTests answered passed ifPassed
   write-short e l = let t = lt-leb (length (planText p)) (length out) l in (rw (e, t), rw (e, t))
 
   pub write-done :
@@ -36,10 +34,5 @@ module _ (p : Plan) (out : List ℕ) where
       n ≡ length (planText p) →
       ys ≡ planText p ++ drop (length (planText p)) out →
       (record { answer = Done; count = n } ≡ writeAnswer p (length out)) × (ys ≡ writePlace p out)
-  unfolding writeAnswer writePlace writeTests answered passed ifPassed answerOf
+  unfolding writeAnswer writePlace writeTests answered passed ifPassed
   write-done n ys e l m f = let t = le-leb (length (planText p)) (length out) l in (rw (e, t, m), rw (e, t) f)
-
--- the refusal's number is that of the first test that fails
-pub write-number : (p : Plan) (room : ℕ) → numberOf (writeAnswer p room .answer) ≡ numberIn (writeTests p room)
-unfolding writeAnswer writeTests AllNamed
-write-number p room = answered-number (writeTests p room) (named-by InvalidPlan _, (named-by WrongLength _, tt))

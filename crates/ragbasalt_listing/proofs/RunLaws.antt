@@ -9,7 +9,8 @@ use lib.ListN.{length, getD, set}
 use Rattle.answer.specs.declared.Answer.{Answer}
 use Rattle.answer.specs.declared.Answer.the-variants.{Done}
 use Rattle.answer.specs.Refusal.{numberOf}
-use Rattle.answer.specs.Tests.{Test, test, answerOf, answered, unlessRefused}
+use Rattle.answer.specs.Tests.{answered, unlessRefused}
+use Rattle.answer.proofs.TestLaws.{first-passed}
 use Rattle.plan.specs.declared.Plan.{Plan}
 use Rattle.plan.specs.Limits.{mostNodes}
 use Rattle.plan.specs.Accepted.{accepted}
@@ -63,13 +64,8 @@ module _ (s : List ℕ) where
 
 -- ---- a line that is not refused is of an accepted plan, which has few nodes
 
-first-passed : (x : Bool) (ts : List Test) → numberOf (answered (test 7 x ∷ ts)) ≡ 0 → x ≡ true
-unfolding answered answerOf
-first-passed true ts e = refl
-first-passed false ts e = absurd (omega (arith, e))
-
 pub nodes-few :
     (r : Run) (rest : List ℕ) (room : ℕ) {o : Printed} → o ≡ nextAnswer r rest room → numberOf (o .answer) ≡ 0 → r .plan .nodes ≤ mostNodes
 unfolding nextAnswer nextTests
 nodes-few r rest room e z =
-    shape-of-accepted (r .plan) (first-passed (accepted (r .plan)) _ (sym (ap (λ (x : Printed). numberOf (x .answer)) e) ∙ z)) .nodes-high
+    shape-of-accepted (r .plan) (first-passed _ _ (sym (ap (λ (x : Printed). numberOf (x .answer)) e) ∙ z)) .nodes-high

@@ -1,8 +1,11 @@
 -- A run between two lines as words: its system's, its single controller's, its period and the number of its next frame; its plan is handed over by itself. Any words are some run.
 use mathlib.Core.List.{List}
+use mathlib.Core.Option.{Option·getD}
 use Prim.Native.Nat.{ℕ, _+_}
 use lib.ListN.{getD, set}
 use Rattle.answer.specs.declared.Answer.{Answer}
+use Rattle.answer.specs.declared.Answer.the-variants.{Done}
+use Rattle.answer.specs.Tests.{refusalOf}
 use Rattle.plan.specs.declared.Plan.{Plan}
 use Rattle.lines.specs.declared.Run.{Run}
 use Rattle.system_words.specs.Words.{ifDone, memoryCount, systemCount, memoryAt, withMemory, systemOfWords, withSystem}
@@ -27,3 +30,7 @@ withRun n r ws = set (set (withMemory (r .single) singleAt (withSystem n (r .sys
 -- a run's words after a call that gives this answer and this run
 unfoldable pub runGiven : Answer → ℕ → Run → List ℕ → List ℕ
 runGiven a n r ws = ifDone a (withRun n r ws) ws
+
+-- the answer of a number and a line, for a caller that hands one over; a number that no refusal has counts as not refused
+abbrev pub answerOf : ℕ → ℕ → Answer
+answerOf number line = Option·getD (refusalOf number line) Done

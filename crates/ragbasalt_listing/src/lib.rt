@@ -2,13 +2,12 @@
 ghost use mathlib.Core.Path.{_≡_};
 ghost use Prim.Native.Nat.{_/_, _%_};
 ghost use lib.ListN.{length};
-ghost use Rattle.answer.specs.Tests.{answerOf};
 ghost use Rattle.plan.specs.Limits.{mostNodes};
 ghost use Rattle.listing_start.specs.Answers.{startAnswer, refusalWritten, refusalPlace};
 ghost use Rattle.listing.specs.Answers.{nextAnswer, nextPlace};
 ghost use Rattle.plan_words.specs.Words.{planWords, planOfWords};
 ghost use Rattle.system_words.specs.Words.{codeOf, ifDone};
-ghost use Rattle.ragbasalt_listing.specs.Words.{runOf, runGiven};
+ghost use Rattle.ragbasalt_listing.specs.Words.{answerOf, runOf, runGiven};
 use system::System;
 
 pub mod step;

@@ -2,9 +2,8 @@
 ghost use mathlib.Core.Path.{_≡_};
 ghost use Prim.Native.Nat.{_/_, _%_, _≤_};
 ghost use Rattle.answer.specs.Refusal.{numberOf};
-ghost use Rattle.answer.specs.Tests.{answerOf as answerOfNumber};
 ghost use Rattle.plan.specs.Limits.{mostNodes};
-ghost use Rattle.ragbasalt_listing.specs.Words.{runOf, withRun, runGiven};
+ghost use Rattle.ragbasalt_listing.specs.Words.{runOf, withRun, runGiven, answerOf as answerOfNumber};
 use answer::Answer;
 use lines::Run;
 use plan::Plan;

@@ -7,9 +7,7 @@ use lib.Dec.{eqb}
 use lib.ListN.{length}
 use Rattle.array.specs.Index.{fill}
 use Rattle.answer.specs.declared.Answer.the-variants.{Done, InvalidPlan, WrongLength}
-use Rattle.answer.specs.Refusal.{numberOf}
-use Rattle.answer.specs.Tests.{numberIn, passed, answerOf, answered, ifPassed}
-use Rattle.answer.proofs.TestLaws.{AllNamed, named-by, answered-number}
+use Rattle.answer.specs.Tests.{passed, answered, ifPassed}
 use Rattle.plan.specs.declared.Plan.{Plan}
 use Rattle.plan.specs.Accepted.{accepted}
 use Rattle.memory.specs.declared.Memory.{Memory}
@@ -25,12 +23,12 @@ module _ (p : Plan) (m : Memory) (sensors place : List ℕ) where
   putOne = singlePlaceAfter p m sensors place
 
   pub single-plan : accepted p ≡ false → (record { answer = InvalidPlan; memory = m } ≡ outcome) × (place ≡ putOne)
-  unfolding singleAnswer singlePlaceAfter singleTests answered passed ifPassed answerOf
+  unfolding singleAnswer singlePlaceAfter singleTests answered passed ifPassed
   single-plan a = (rw a, rw a)
 
   module _ (a : accepted p ≡ true) where
     pub single-length : (eqb (length sensors) (p .sensors) && eqb (length place) (p .actuators)) ≡ false → (record { answer = WrongLength; memory = m } ≡ outcome) × (place ≡ putOne)
-    unfolding singleAnswer singlePlaceAfter singleTests answered passed ifPassed answerOf
+    unfolding singleAnswer singlePlaceAfter singleTests answered passed ifPassed
     single-length l = (rw (a, l), rw (a, l))
 
     pub single-done :
@@ -39,9 +37,5 @@ module _ (p : Plan) (m : Memory) (sensors place : List ℕ) where
         next ≡ computed p sensors m →
         now ≡ fill (setpoint p next) (p .actuators) place →
         (record { answer = Done; memory = next } ≡ outcome) × (now ≡ putOne)
-    unfolding singleAnswer singlePlaceAfter singleTests singlePlace answered passed ifPassed answerOf
+    unfolding singleAnswer singlePlaceAfter singleTests singlePlace answered passed ifPassed
     single-done l e h = (rw (a, l, e), rw (a, l, ← e) h)
-
-  pub single-number : numberOf (outcome .answer) ≡ numberIn (singleTests p (length sensors) (length place))
-  unfolding singleAnswer singleTests AllNamed
-  single-number = answered-number (singleTests p (length sensors) (length place)) (named-by InvalidPlan _, (named-by WrongLength _, tt))

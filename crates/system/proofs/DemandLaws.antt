@@ -12,10 +12,7 @@ use Rattle.array.specs.Index.{allIn}
 use Rattle.array.proofs.TestLaws.{split, clash, and-left, and-right}
 use Rattle.array.proofs.BitLaws.{bit-none}
 use Rattle.answer.specs.declared.Answer.{Answer}
-use Rattle.answer.specs.declared.Answer.the-variants.{InvalidPlan, WrongLength, MaskOrCount}
-use Rattle.answer.specs.Refusal.{numberOf}
-use Rattle.answer.specs.Tests.{numberIn, passed, answerOf, answered, ifPassed}
-use Rattle.answer.proofs.TestLaws.{AllNamed, named-by, answered-number}
+use Rattle.answer.specs.Tests.{passed, answered, ifPassed}
 use Rattle.plan.specs.declared.Plan.{Plan}
 use Rattle.plan.specs.Known.{known, period}
 use Rattle.plan.specs.Accepted.{accepted}
@@ -55,13 +52,8 @@ module _ (sys : System) (c : Call) where
     runs-frame = split (accepted (c .plan)) (λ e. rw (counts e, and-true (maskOk (c .plan) (c .mask)))) (λ e. rw e)
 
     answer-frame : frameAnswer (c .plan) sys (c .sensors) (c .mask) (c .faults) (c .place) .answer ≡ callAnswer c
-    unfolding answered answerOf frameAnswer frameTests callAnswer callTests callLengths
+    unfolding answered frameAnswer frameTests callAnswer callTests callLengths
     answer-frame = split (accepted (c .plan)) (λ e. rw (counts e, and-true (maskOk (c .plan) (c .mask)))) (λ e. rw e)
-
--- the refusal's number is that of the first test that fails
-pub call-number : (c : Call) → numberOf (callAnswer c) ≡ numberIn (callTests c)
-unfolding callAnswer callTests AllNamed
-call-number c = answered-number (callTests c) (named-by InvalidPlan _, (named-by MaskOrCount _, (named-by WrongLength _, tt)))
 
 -- the plan of a call that is not refused with 7 is p
 accepted-is : {p : Plan} (c : Call) → (c .plan ≡ p) ⊎ (accepted (c .plan) ≡ false) → accepted (c .plan) ≡ true → c .plan ≡ p

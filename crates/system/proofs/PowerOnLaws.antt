@@ -4,7 +4,7 @@ use mathlib.Core.Bool.{true, false}
 use Prim.Native.Nat.{ℕ}
 use Rattle.array.specs.Index.{fill}
 use Rattle.answer.specs.declared.Answer.the-variants.{Done, InvalidPlan}
-use Rattle.answer.specs.Tests.{passed, answerOf, answered, ifPassed}
+use Rattle.answer.specs.Tests.{passed, answered, ifPassed}
 use Rattle.plan.specs.declared.Plan.{Plan}
 use Rattle.plan.specs.Known.{period}
 use Rattle.plan.specs.Accepted.{accepted}
@@ -29,9 +29,9 @@ module _ (p : Plan) where
       λ i. record { memories = a₁ i; good = b₁ i }
 
   pub powerOn-refused : (sys : System) → accepted p ≡ false → sys ≡ zeroSystem → record { answer = InvalidPlan; system = sys } ≡ systemPowerOnAnswer p
-  unfolding systemPowerOnAnswer checked planTests answered passed ifPassed answerOf
+  unfolding systemPowerOnAnswer checked planTests answered passed ifPassed
   powerOn-refused sys a e = rw (a, e)
 
   pub powerOn-done : (sys : System) → accepted p ≡ true → sys ≡ powerOn p → record { answer = Done; system = sys } ≡ systemPowerOnAnswer p
-  unfolding systemPowerOnAnswer checked planTests answered passed ifPassed answerOf
+  unfolding systemPowerOnAnswer checked planTests answered passed ifPassed
   powerOn-done sys a e = rw (a, e)

@@ -5,7 +5,7 @@ use mathlib.Core.List.{List}
 use Prim.Native.Nat.{ℕ}
 use borrow.Author.Needs.{needs}
 use Rattle.answer.specs.declared.Answer.the-variants.{Done, InvalidPlan}
-use Rattle.answer.specs.Tests.{passed, answerOf, answered, ifPassed}
+use Rattle.answer.specs.Tests.{passed, answered, ifPassed}
 use Rattle.plan.specs.declared.Plan.{Plan}
 use Rattle.plan.specs.Accepted.{accepted}
 use Rattle.plan_period.specs.Answers.{planTests, checked, acceptedPeriod}
@@ -26,11 +26,11 @@ use Rattle.listing_start.proofs.start.Tie as tie
 
 module _ (p : Plan) {m : Memory} where
   memory-done : accepted p ≡ true → m ≡ poweredOn p → record { answer = Done; memory = m } ≡ powerOnAnswer p
-  unfolding powerOnAnswer checked planTests answered passed ifPassed answerOf
+  unfolding powerOnAnswer checked planTests answered passed ifPassed
   memory-done a e = rw (a, e)
 
   memory-refused : accepted p ≡ false → m ≡ zeroMemory → record { answer = InvalidPlan; memory = m } ≡ powerOnAnswer p
-  unfolding powerOnAnswer checked planTests answered passed ifPassed answerOf
+  unfolding powerOnAnswer checked planTests answered passed ifPassed
   memory-refused a e = rw (a, e)
 
 module _ (s : List ℕ) {x : PlanRead} {n : ℕ} (e : x ≡ readAnswer s) (f : n ≡ readPeriod s) where
