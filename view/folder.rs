@@ -306,6 +306,7 @@ pub fn followed(plan: &Accepted, file: &RunFile, programs: &Programs) -> Outcome
         header,
         period: plan.period,
         faults: listing::faults(&states, nodes),
+        promise_end: listing::promise_end(&listed.frames, nodes),
         masks,
         states,
         frames: listed.frames,

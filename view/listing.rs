@@ -68,6 +68,12 @@ pub fn states(masks: impl Iterator<Item = u64>, nodes: usize, period: usize) -> 
         .collect()
 }
 
+/// The first frame in which not more than half of the nodes work. Demand 3 is about a whole list of
+/// frames: it promises those before this one, and from it on nothing, whoever works later.
+pub fn promise_end(frames: &[Frame], nodes: usize) -> Option<usize> {
+    frames.iter().position(|frame| 2 * frame.working <= nodes as u64)
+}
+
 /// A fault: one node is bad in these frames, from the first to the last, and not in those beside.
 #[derive(Clone, Copy, PartialEq, Eq, Debug)]
 pub struct Fault {
@@ -105,6 +111,8 @@ pub struct Run {
     /// The same run with masks 0, by the proved program.
     pub without_faults: Vec<Frame>,
     pub faults: Vec<Fault>,
+    /// The frame from which on nothing is promised.
+    pub promise_end: Option<usize>,
     /// What ended it before its end.
     pub refusal: Option<Refusal>,
 }
@@ -141,5 +149,9 @@ impl Run {
 
     pub fn any_differs(&self, frame: usize) -> bool {
         (0..self.actuators()).any(|actuator| self.differs(frame, actuator))
+    }
+
+    pub fn is_promised(&self, frame: usize) -> bool {
+        self.promise_end.is_none_or(|end| frame < end)
     }
 }

@@ -7,7 +7,7 @@ use std::ops::Range;
 use super::listing::{stretches, Frame, Run, State};
 use super::names::Names;
 use super::pattern::decimal;
-use super::show::{grouped, sizes, summary};
+use super::show::{grouped, promise, sizes, summary};
 
 const WIDTH: f64 = 960.0;
 const LEFT: f64 = 96.0;
@@ -41,6 +41,9 @@ text{font:12px Helvetica,Arial,sans-serif;fill:#1b1f23}
 .off{fill:#d1242f}
 .beyond{fill:#7a4fb5}
 .nan{fill:#7a4fb5;fill-opacity:.22}
+.unpromised{fill:url(#hatch);pointer-events:none}
+.hatch{stroke:#57606a;stroke-width:1.2;stroke-opacity:.5}
+.end{stroke:#1b1f23;stroke-width:2;pointer-events:none}
 @media screen and (prefers-color-scheme:dark){
 .ground{fill:#0f1419}
 text{fill:#e6edf3}
@@ -56,8 +59,13 @@ text{fill:#e6edf3}
 .line.area{fill:#79b8ff}
 .off{fill:#ff7b72}
 .beyond,.nan{fill:#c297ff}
+.hatch{stroke:#c9d1d9}
+.end{stroke:#e6edf3}
 }
 ";
+
+/// Slanting lines, for the frames in which nothing is promised.
+const HATCH: &str = "<defs><pattern id=\"hatch\" width=\"8\" height=\"8\" patternUnits=\"userSpaceOnUse\" patternTransform=\"rotate(45)\"><line class=\"hatch\" x1=\"4\" y1=\"0\" x2=\"4\" y2=\"8\"/></pattern></defs>\n";
 
 /// The frames of a run in the columns of the picture.
 struct Columns {
@@ -319,6 +327,16 @@ impl Picture<'_> {
         self.line("axis", (LEFT, scale.top), (LEFT, scale.top + scale.height));
     }
 
+    /// The frames of a panel in which nothing is promised, hatched, with a line where they begin.
+    fn unpromised(&mut self, top: f64, height: f64) {
+        let run = self.run;
+        for columns in self.columns.stretches(|frame| !run.is_promised(frame)) {
+            self.rect("unpromised", columns, top, height);
+            let x = self.columns.x(columns.0);
+            self.line("end", (x, top), (x, top + height));
+        }
+    }
+
     /// One row a node: what it is in each frame.
     fn nodes(&mut self, top: f64) {
         let step = NODE + 3.0;
@@ -345,7 +363,9 @@ impl Picture<'_> {
             self.path("recovering", &d);
             self.faults(node, y);
         }
-        self.frames_axis(top + step * count as f64 - 3.0, 0.0);
+        let height = step * count as f64 - 3.0;
+        self.unpromised(top, height);
+        self.frames_axis(top + height, 0.0);
     }
 
     /// Each fault of a node is one mark, which tells its frames; where frames share columns a mark
@@ -393,6 +413,7 @@ impl Picture<'_> {
         self.value_axis(&scale, &ticks);
         let half = scale.y(nodes as f64 / 2.0);
         self.line("half", (LEFT, half), (LEFT + PLOT, half));
+        self.unpromised(top, AGREEMENT);
         let values: Vec<f64> = self.run.frames.iter().map(|frame| frame.agreement as f64).collect();
         self.curve("line", &scale, &values);
     }
@@ -415,6 +436,7 @@ impl Picture<'_> {
         self.heading(top, &format!("setpoint {}", cut(&self.names.actuators[actuator], 60)), &note);
         self.frames_axis(top, SETPOINT);
         self.value_axis(&scale, &scale.ticks());
+        self.unpromised(top, SETPOINT);
         self.curve("quiet", &scale, &quiet);
         self.curve("line", &scale, &own);
         let marks: [(&str, &dyn Fn(usize) -> bool, f64, f64); 4] = [
@@ -428,6 +450,23 @@ impl Picture<'_> {
                 self.rect(class, columns, top, height);
             }
         }
+    }
+
+    /// A sample of an area, for the words behind it.
+    fn sample(&mut self, class: &str, x: f64, y: f64) {
+        self.path(class, &format!("M{} {}h22v10h-22Z", short(x), short(y - 9.0)));
+    }
+
+    /// How far the promise goes, with a sample of the hatching where it ends.
+    fn promise(&mut self, y: f64) {
+        let mut x = LEFT;
+        if self.run.promise_end.is_some() {
+            self.out += HATCH;
+            self.sample("unpromised", x, y);
+            self.line("end", (x, y - 9.0), (x, y + 1.0));
+            x += 28.0;
+        }
+        self.text("", x, y, &promise(self.run));
     }
 
     fn legend(&mut self, y: f64) {
@@ -448,7 +487,7 @@ impl Picture<'_> {
             }
             match class {
                 "line" | "quiet" => self.line(class, (x, y - 4.0), (x + 22.0, y - 4.0)),
-                _ => self.path(class, &format!("M{} {}h22v10h-22Z", short(x), short(y - 9.0))),
+                _ => self.sample(class, x, y),
             }
             self.text("", x + 28.0, y, words);
             x += 28.0 + 6.0 * words.len() as f64 + 16.0;
@@ -461,8 +500,12 @@ pub fn svg(run: &Run, names: &Names, name: &str) -> String {
     let frames = run.frames.len();
     let columns = Columns { frames, count: frames.min(COLUMNS) };
     let mut picture = Picture { run, names, columns, out: String::new() };
-    let mut y = 112.0;
+    let mut y = 132.0;
+    let about = format!("{}; {}", sizes(&run.header, run.period), summary(run));
+    let mut described = about.clone();
     if frames > 0 {
+        described += &format!("; {}", promise(run));
+        picture.promise(72.0);
         picture.nodes(y);
         y += (NODE + 3.0) * run.nodes() as f64 - 3.0 + GAP;
         picture.agreement(y);
@@ -473,13 +516,13 @@ pub fn svg(run: &Run, names: &Names, name: &str) -> String {
         }
         picture.text("small middle", LEFT + PLOT / 2.0, y - GAP + 26.0, "frame");
     }
-    picture.legend(76.0);
+    picture.legend(96.0);
     let title = escaped(&cut(names.title.as_deref().unwrap_or(name), 90));
-    let about = escaped(&format!("{}; {}", sizes(&run.header, run.period), summary(run)));
+    let (about, described) = (escaped(&about), escaped(&described));
     let height = short(y);
     format!(
         "<svg xmlns=\"http://www.w3.org/2000/svg\" role=\"img\" width=\"{WIDTH}\" height=\"{height}\" viewBox=\"0 0 {WIDTH} {height}\">\n\
-         <title>{title}</title>\n<desc>{about}</desc>\n<style>{STYLE}</style>\n\
+         <title>{title}</title>\n<desc>{described}</desc>\n<style>{STYLE}</style>\n\
          <rect class=\"ground\" width=\"{WIDTH}\" height=\"{height}\"/>\n\
          <text class=\"title\" x=\"{LEFT}\" y=\"30\">{title}</text>\n<text x=\"{LEFT}\" y=\"52\">{about}</text>\n{}</svg>\n",
         picture.out

@@ -49,6 +49,20 @@ pub fn summary(run: &Run) -> String {
     format!("{} run, {}, {off}{ended}", plural(frames, "frame"), plural(faults, "fault"))
 }
 
+/// How far the promise goes, in one line.
+pub fn promise(run: &Run) -> String {
+    match run.promise_end {
+        None => String::from(
+            "right setpoints are promised in every frame: more than half of the nodes work in each",
+        ),
+        Some(end) => format!(
+            "nothing is promised from frame {end} on until the next power-on: in frame {end} not more than half of the nodes work ({} of {})",
+            run.frames[end].working,
+            run.nodes()
+        ),
+    }
+}
+
 /// Whether a frame's nodes, counts and marks are those of the frame before it. Setpoints that move
 /// and a recovering node's count are no change: on a running press they are in every frame.
 fn is_alike(run: &Run, frame: usize) -> bool {
@@ -59,6 +73,7 @@ fn is_alike(run: &Run, frame: usize) -> bool {
         |frame: usize| (0..run.actuators()).map(move |actuator| run.differs(frame, actuator));
     states(frame).eq(states(frame - 1))
         && counts(frame) == counts(frame - 1)
+        && run.is_promised(frame) == run.is_promised(frame - 1)
         && marks(frame).eq(marks(frame - 1))
 }
 
@@ -115,7 +130,10 @@ fn setpoint(run: &Run, frames: &RangeInclusive<usize>, actuator: usize) -> Strin
 fn row(run: &Run, frames: &RangeInclusive<usize>) -> Vec<String> {
     let (first, last) = (*frames.start(), *frames.end());
     let line = &run.frames[first];
-    let number = if first == last { first.to_string() } else { format!("{first}-{last}") };
+    let mut number = if first == last { first.to_string() } else { format!("{first}-{last}") };
+    if run.promise_end.is_some() {
+        number.push(if run.is_promised(first) { ' ' } else { '!' });
+    }
     let bad = Some(nodes(run.masks[first])).filter(|bad| !bad.is_empty());
     let mut row = vec![number, bad.unwrap_or_else(|| String::from("-"))];
     let states = run.states[first].iter().zip(&run.states[last]);
@@ -134,7 +152,8 @@ pub fn table(run: &Run, names: &Names, all: bool) -> String {
     if run.frames.is_empty() {
         return about;
     }
-    let mut head = vec![String::from("frame"), String::from("bad")];
+    let frame = if run.promise_end.is_some() { "frame " } else { "frame" };
+    let mut head = vec![String::from(frame), String::from("bad")];
     head.extend((0..run.nodes()).map(|node| format!("n{node}")));
     head.extend([String::from("equal"), String::from("agree")]);
     head.extend(names.actuators.iter().map(|name| format!("{name} ")));
@@ -149,7 +168,7 @@ pub fn table(run: &Run, names: &Names, all: bool) -> String {
         format!("{}\n", cells.collect::<Vec<_>>().join("  ").trim_end())
     };
     let table: String = lines.iter().map(padded).collect();
-    format!("{about}\n{table}\n{}", legend(run, shared))
+    format!("{about}{}\n\n{table}\n{}", promise(run), legend(run, shared))
 }
 
 fn legend(run: &Run, shared: bool) -> String {
@@ -162,6 +181,9 @@ fn legend(run: &Run, shared: bool) -> String {
          equal: nodes whose memory is that of a controller that never failed; agree: the least agreement of a good node\n",
         run.period
     );
+    if run.promise_end.is_some() {
+        out += "!: nothing is promised, also where nodes are ok again and setpoints right: the promise is for runs with more than half of the nodes working in every frame since power-on\n";
+    }
     if (0..run.frames.len()).any(|frame| run.any_differs(frame)) {
         out += "*: not what a press without faults gets (the same run with nobody bad, by the proved program)\n";
     }

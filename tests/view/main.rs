@@ -42,6 +42,7 @@ mod view {
 
 mod forms;
 mod pictures;
+mod promise;
 mod refusals;
 mod tables;
 mod verbs;
@@ -109,7 +110,7 @@ fn main() -> ExitCode {
     let root = std::env::args().nth(1).unwrap_or_else(|| String::from("."));
     let root = Path::new(&root).canonicalize().expect("the repository's folder");
     let tree = &Tree { programs: Programs::new(&root), root };
-    let tests: [(&str, fn(&Tree) -> Tested); 10] = [
+    let tests: [(&str, fn(&Tree) -> Tested); 11] = [
         ("values", |_| forms::values()),
         ("plans by name", forms::plans),
         ("runs by name", forms::runs),
@@ -119,6 +120,7 @@ fn main() -> ExitCode {
         ("refusals", refusals::all),
         ("tables", tables::all),
         ("pictures", pictures::all),
+        ("promise", promise::all),
         ("verbs", verbs::all),
     ];
     for (name, test) in tests {

@@ -9,7 +9,7 @@ use super::random::Random;
 use super::view::listing::{Run, State};
 use super::view::names::Names;
 use super::view::{picture, runs};
-use super::{each, same, tables, Tested, Tree};
+use super::{each, promise, same, tables, Tested, Tree};
 
 /// The layout, told once more so that the picture is read by itself: where the panels begin and how
 /// wide they are, and how many columns share a long run's frames.
@@ -395,8 +395,65 @@ fn check_nodes(run: &Run, all: &[Element]) -> Result<u64, String> {
     Ok(stood)
 }
 
+/// Where the hatched areas of the panels begin and end.
+pub fn hatched(svg: &str) -> Result<Vec<(f64, f64)>, String> {
+    Ok(rects(&elements(svg)?, "unpromised", (0.0, f64::INFINITY)).collect())
+}
+
+/// From the first frame on in which not more than half of the nodes work every panel is hatched from
+/// its top to its foot, with a line where that begins; the words are there, and a sample before them.
+fn check_promise(run: &Run, all: &[Element], headings: &[&Element]) -> Result<(), String> {
+    let half = |frame: &usize| 2 * run.frames[*frame].working <= run.nodes() as u64;
+    let end = (0..run.frames.len()).find(half);
+    let words = promise::words(run.nodes(), end.map(|end| (end, run.frames[end].working)));
+    let told = all.iter().filter(|element| element.name == "text" && element.text == words);
+    same("the promise in words", told.count(), 1)?;
+    let about = all.iter().find(|element| element.name == "desc").map_or("", |desc| desc.text);
+    same("the promise in the description", about.ends_with(&format!("; {words}")), true)?;
+    let count = |name: &str, class: &str| all.iter().filter(|one| one.is(name, class)).count();
+    let some = usize::from(end.is_some());
+    let patterns = all.iter().filter(|one| one.name == "pattern" && one.get("id") == "hatch");
+    let marks = [
+        patterns.count(),
+        count("line", "hatch"),
+        count("path", "unpromised"),
+        count("rect", "unpromised"),
+        count("line", "end"),
+    ];
+    let panels = headings.len();
+    same("marks of the promise", marks, [1, 1, 1, panels, panels + 1].map(|one| one * some))?;
+    let heights = [19.0 * run.nodes() as f64 - 3.0, 56.0];
+    let heights = heights.into_iter().chain(std::iter::repeat(92.0));
+    for (heading, height) in headings.iter().zip(heights) {
+        let top = heading.number("y") + 8.0;
+        let hatched = covered(run, rects(all, "unpromised", (top - 0.1, top + 0.1)));
+        let wanted = wanted(run, |frame| end.is_some_and(|end| frame >= end));
+        same("hatched columns", &hatched, &wanted)?;
+        let Some(first) = wanted.first() else { continue };
+        let near = |one: &Element, name: &str, value: f64| (one.number(name) - value).abs() < 0.06;
+        let x = LEFT + WIDTH * *first as f64 / columns(run) as f64;
+        let tall = |one: &&Element| {
+            one.is("rect", "unpromised") && near(one, "y", top) && near(one, "height", height)
+        };
+        let line = |one: &&Element| {
+            one.is("line", "end")
+                && near(one, "x1", x)
+                && near(one, "x2", x)
+                && near(one, "y1", top)
+                && near(one, "y2", top + height)
+        };
+        let found = (all.iter().filter(tall).count(), all.iter().filter(line).count());
+        same("a panel's hatching and line", found, (1, 1))?;
+    }
+    // Its colours: for paper and light screens, and for dark ones.
+    let style = all.iter().find(|element| element.name == "style").map_or("", |style| style.text);
+    let (light, dark) = style.split_once("@media screen").unwrap_or((style, ""));
+    let both = |class: &str| light.contains(class) && dark.contains(class);
+    same("colours", both(".hatch{stroke:") && both(".end{stroke:"), true)
+}
+
 /// The whole picture of a run, read back.
-fn check(run: &Run, svg: &str) -> Result<u64, String> {
+pub fn check(run: &Run, svg: &str) -> Result<u64, String> {
     let all = elements(svg)?;
     if all.iter().any(|element| {
         element.name == "script"
@@ -436,6 +493,7 @@ fn check(run: &Run, svg: &str) -> Result<u64, String> {
     same("the note on columns", noted, most > 1)?;
     let headings: Vec<&Element> = all.iter().filter(|element| element.is("text", "head")).collect();
     same("panels", headings.len(), 2 + run.actuators())?;
+    check_promise(run, &all, &headings)?;
     let top = headings[1].number("y") + 8.0;
     let axis = Axis::read(&all, (top, top + 56.0))?;
     let agreement: Vec<f64> = run.frames.iter().map(|frame| frame.agreement as f64).collect();

@@ -3,7 +3,9 @@
 use std::fs;
 
 use super::cases::case;
+use super::listing::listing;
 use super::plan;
+use super::promise;
 use super::view::folder::{followed, Accepted, Origin, Plan, RunFile};
 use super::view::listing::{Run, State};
 use super::view::names::Names;
@@ -31,15 +33,17 @@ pub fn run(
 }
 
 /// The table of a run, read back: frame, bad nodes, states, equal, agreement, setpoints, marks.
-fn check_table(run: &Run, names: &Names) -> Result<(), String> {
+pub fn check_table(run: &Run, names: &Names) -> Result<(), String> {
     let table = show::table(run, names, true);
-    let lines = table.lines().skip(3).take(run.frames.len());
+    let lines = table.lines().skip(4).take(run.frames.len());
     let quiet = &run.without_faults;
+    let mut promised = true;
     for ((frame, line), expected) in lines.enumerate().zip(&run.frames) {
+        promised &= 2 * expected.working > run.nodes() as u64;
         let words: Vec<&str> = line.split_whitespace().collect();
         let bad = (0..run.nodes()).filter(|node| run.masks[frame] >> node & 1 == 1).count();
         let states = &words[1 + bad.max(1)..];
-        same("the frame", words[0], &frame.to_string())?;
+        same("the frame", words[0], &format!("{frame}{}", if promised { "" } else { "!" }))?;
         same(
             "bad nodes",
             states[..run.nodes()].iter().filter(|state| **state == "BAD").count(),
@@ -66,8 +70,9 @@ fn check_table(run: &Run, names: &Names) -> Result<(), String> {
     Ok(())
 }
 
-/// The frames of a row: `7` or `8-40`.
+/// The frames of a row: `7` or `8-40`, with a mark behind them where nothing is promised.
 fn frames_of(word: &str) -> Option<std::ops::RangeInclusive<usize>> {
+    let word = word.strip_suffix('!').unwrap_or(word);
     let (first, last) = word.split_once('-').unwrap_or((word, word));
     Some(first.parse().ok()?..=last.parse().ok()?)
 }
@@ -80,16 +85,19 @@ fn is_shown(word: &str, value: f64, range: f64) -> bool {
 
 /// Of a long run: every frame once, those that share a row alike in all but moving setpoints, of
 /// which the least and the greatest are shown.
-fn check_short_table(run: &Run, names: &Names) -> Result<(), String> {
+pub fn check_short_table(run: &Run, names: &Names) -> Result<(), String> {
     let table = show::table(run, names, false);
     let (mut due, mut rows) = (0, 0);
-    for line in table.lines().skip(3) {
+    let half = |frame: usize| 2 * run.frames[frame].working <= run.nodes() as u64;
+    let end = (0..run.frames.len()).find(|&frame| half(frame)).unwrap_or(run.frames.len());
+    for line in table.lines().skip(4) {
         let words: Vec<&str> = line.split_whitespace().collect();
         let Some(frames) = words.first().and_then(|word| frames_of(word)) else { break };
         same("the next frame", *frames.start(), due)?;
         due = *frames.end() + 1;
         let (first, setpoints) = (due - frames.clone().count(), words.len() - run.actuators());
         for frame in frames.clone() {
+            same("a mark of the promise", words[0].ends_with('!'), frame >= end)?;
             let alike = |frame: usize| {
                 let line = &run.frames[frame];
                 (run.masks[frame], line.working, line.equal, line.agreement)
@@ -183,24 +191,33 @@ pub fn all(tree: &Tree) -> Tested {
             .map_err(|error| format!("{example}/show.txt: {error}"))?;
         same(example, output.out, expected)?;
     }
-    let one = |seed: u64, counts: &mut [u64; 3]| {
+    let one = |seed: u64, counts: &mut [u64; 4]| {
         let case = case(seed);
         let (Some(plan), Some(text)) = (case.plan, case.run) else { return Ok(()) };
         if text.len() > 400_000 {
             return Ok(());
         }
+        let listed = listing(&plan, &text).bytes;
         let Some((run, names)) = run(tree, plan, text)? else { return Ok(()) };
+        let end = promise::of_listing(&listed, run.nodes());
+        same("where the promise ends", run.promise_end, end.map(|(end, _)| end))?;
+        if !run.frames.is_empty() {
+            let table = show::table(&run, &names, false);
+            let words = promise::words(run.nodes(), end);
+            same("the promise", table.lines().nth(1), Some(words.as_str()))?;
+        }
         check_table(&run, &names)?;
         check_short_table(&run, &names)?;
         check_held(run.clone(), seed)?;
         counts[0] += 1;
         counts[1] += run.frames.len() as u64;
         counts[2] += (0..run.frames.len()).filter(|&frame| run.any_differs(frame)).count() as u64;
+        counts[3] += u64::from(end.is_some());
         Ok(())
     };
-    let sum = each(800, one, |sum: &mut [u64; 3], count| (0..3).for_each(|i| sum[i] += count[i]))?;
-    match sum[0] > 150 && sum[2] > 500 {
-        true => Ok(format!("{} examples; {} runs of {} frames, every number and mark as listed, {} frames with a mark", EXAMPLES.len(), sum[0], sum[1], sum[2])),
+    let sum = each(800, one, |sum: &mut [u64; 4], count| (0..4).for_each(|i| sum[i] += count[i]))?;
+    match sum[0] > 150 && sum[2] > 500 && sum[3] > 50 && sum[0] - sum[3] > 50 {
+        true => Ok(format!("{} examples; {} runs of {} frames, every number and mark as listed, {} frames with a mark; in {} of them the promise ends, where the reference's listing says", EXAMPLES.len(), sum[0], sum[1], sum[2], sum[3])),
         false => Err(format!("too few runs: {sum:?}")),
     }
 }

@@ -314,7 +314,7 @@ fn named_folders(work: &Work) -> Result<(), String> {
     }
     // Its names are not those of the text, then.
     let output = call(work.tree, &["show", &work.at("by name")]);
-    let head = output.out.lines().nth(2).unwrap_or_default();
+    let head = output.out.lines().nth(3).unwrap_or_default();
     same("made-up names", (head.contains(" a0 "), head.contains("cyan")), (true, false))?;
     // A refused line of a run by name, in a folder.
     work.file("silent/plan.named", work.example("k/plan.named")?)?;
