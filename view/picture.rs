@@ -1,5 +1,6 @@
 //! A run as one SVG picture: the nodes' states, the agreement, and each setpoint with the one of a
-//! press without faults behind it. No script; light in print, by the reader's setting on a screen.
+//! press without faults behind it; hatched where nothing is promised. No script; light in print, by
+//! the reader's setting on a screen.
 
 use std::iter;
 use std::ops::Range;

@@ -217,7 +217,7 @@ pub fn all(tree: &Tree) -> Tested {
     };
     let sum = each(800, one, |sum: &mut [u64; 4], count| (0..4).for_each(|i| sum[i] += count[i]))?;
     match sum[0] > 150 && sum[2] > 500 && sum[3] > 50 && sum[0] - sum[3] > 50 {
-        true => Ok(format!("{} examples; {} runs of {} frames, every number and mark as listed, {} frames with a mark; in {} of them the promise ends, where the reference's listing says", EXAMPLES.len(), sum[0], sum[1], sum[2], sum[3])),
+        true => Ok(format!("{} examples; {} runs of {} frames, every number and mark as listed, {} frames with a mark; in {} runs the promise ends, where the reference's listing says", EXAMPLES.len(), sum[0], sum[1], sum[2], sum[3])),
         false => Err(format!("too few runs: {sum:?}")),
     }
 }
