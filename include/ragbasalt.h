@@ -1,23 +1,232 @@
-/* Ragbasalt: the voting frame controller of a web press, for programs in C (C11) and C++ (C++17) on x86-64.
+/* ragbasalt.h: the voting frame controller of a web press, for C (C11) and C++ (C++17) on x86-64. Version 3.
  *
- * Build the archive with `./ragbasalt library` (target/staticlib/libragbasalt.a), include this file and link with the archive. What the calls do is said here, call by call; the customer's documents 01 and 02 are
- * the specification, docs/GLOSSARY.md explains their words, and examples/board is a board in C.
+ * Link with the archive libragbasalt.a. What a caller needs to know is in this file: sections 1 to 10 tell what is
+ * computed and in which form, then come limits, structs and calls. (In the repository `./ragbasalt library` builds the
+ * archive, and examples/board/board.c is a board that calls it.)
  *
- * A plan, a memory, a system and a run are structs of 64-bit words. Any words may stand in them: words that are no plan's are refused with 7; a counter counts by its low 16 bits; a good count above 65,535
- * counts as 65,535, which is above every recovery period. What has no fixed size (texts, sensors, messages, mailboxes, fault bytes, setpoints, masks) is a pointer and its length, counted in elements.
+ * 1. What this is
  *
- * What a caller must keep to:
- * - a pointer is valid for its whole length, aligned for its type, and not null where the length is not 0; a pointer to a struct or to one number is valid and not null;
- * - the buffers of one call do not overlap each other;
- * - no other thread reads or writes a buffer while a call has it. The archive has no state of its own, so calls on different buffers may run at once.
- * Everything else is answered: given the stack, no content of a buffer, no length, no mask and no number can make a call trap or run for ever.
+ * A press has n controllers, the nodes. All have the same plan, and in each frame all get the same sensor readings.
+ * Many times a second each node computes its setpoints, sends a message to all nodes, takes over what more than half of
+ * the messages say, and puts its setpoints out. The plane, which stands before the drives, hands on one of the n setpoints
+ * for each actuator. So a node that a fault left with a wrong memory gets it right again from the others.
  *
- * An answer is one number, number + 256 * line; 0 is done. Refused, every word and byte that was lent stays as it was, and a number that a call gives (count, period, agreement) is 0. Not refused, a call
- * on a memory, a system or a run writes the words of the plan's nodes and cells; all others stay as they were, high bits too. Power-on writes all words, zeros past the plan's nodes and cells. Refusals come in the order
- * 7, 9, 11, 8, 10; those of a text, 1 to 6, alone.
+ * There are calls on a plan (read, write, test), on one node (what a board calls in each frame), on a system of n nodes
+ * under faults (to try out a plan), and on a run, which is a file of frames that is listed line by line.
  *
- * The archive is for x86-64 and the System V calling convention. It needs memcpy and memset, allocates nothing, and uses the red zone: a kernel that calls it is built to spare that. Stack that a call takes below
- * its caller, measured on this archive (docs/PERFORMANCE.md): at most 25,300 bytes for a call on a plan or on one node, 29,900 for one on a system, 61,900 for ragbasalt_listing_next. Allow for some more.
+ * 2. A frame, in six sentences
+ *
+ * Memory:    a node's memory is a counter and C cells; at power-on the counter is 0 and each cell has its initial pattern.
+ * Compute:   with g = counter mod F the tasks of frame g run in their order, each seeing what those before it wrote; then
+ *            the counter becomes (g + 1) mod F.
+ * Broadcast: the node sends its new counter and the cells that are voted in frame g, and 0 for every other cell.
+ * Vote:      the counter that more than half of the n messages hold is taken over, unless it is F or above; then, with
+ *            g' = (counter + F - 1) mod F, each cell voted in g' takes the value that more than half of the messages hold;
+ *            where there is no such value, the node's own stays.
+ * Setpoints: setpoint i is the pattern in the cell of actuator i.
+ * Plane:     for each actuator it hands on the value that most nodes put out; of tied values, that whose lowest-numbered
+ *            holder is lowest.
+ *
+ * A node hears itself: its own message is one of the n. More than half is of all n: 2 of 3, 3 of 4, and both of 2. Votes
+ * and plane compare bits: +0 and -0 differ, and a NaN equals a NaN of the same bits. Any memory may be computed on, since a
+ * fault may leave anything: a counter of F or above works as counter mod F in Compute and is sent as it is.
+ *
+ * More words, said of a system from power-on:
+ *
+ *   good, bad    of a node in a frame. A good node does the above. What a bad one holds after the frame, sends to each node
+ *                and puts out is whatever the caller says (section 8).
+ *   good count   of a node: R at power-on (R is in section 5); 0 after a frame in which it was bad, 1 more after one in
+ *                which it was good, up to R.
+ *   works        a node works in a frame if it is good in it and its good count was R before it.
+ *   single       the single controller: one memory that computes in each frame and never fails or votes. Its setpoints
+ *                are what the press should get.
+ *   equal        a node whose memory after a frame is the single controller's: counter and C cells, bit for bit.
+ *   agreement    of a node's vote: how many of the messages hold the value that more than half of them hold, 0 where there
+ *                is none; the least over the counter and the cells voted in g'. Of a frame: the least over its good nodes,
+ *                0 if all are bad.
+ *
+ * While in every frame from power-on on more than half of the nodes work, the plane hands on the single controller's
+ * setpoints, and every node whose good count is R is equal, whatever bad nodes do. With 1 or 2 nodes that is only while no
+ * node is bad.
+ *
+ * 3. Numbers and patterns
+ *
+ * A pattern is the 64 bits of an IEEE 754 binary64 value, a C `double`, in a uint64_t (memcpy takes one to the other).
+ * Sensors, cells, setpoints and the constants of tasks are patterns: 0 is +0.0, 0x3FF0000000000000 is 1.0. A sensor and an
+ * initial pattern may be any, also a NaN or an infinity.
+ *
+ * Nodes, frames, cells, targets, sensors and actuators count from 0, lines of a text or of a run from 1. A mask is a set of nodes: bit i for node i.
+ *
+ * Each sum, difference and product is rounded once, to nearest, ties to even; subnormal values are kept; a NaN that comes
+ * out is always 0x7FF8000000000000.
+ *
+ * 4. The plan
+ *
+ * A plan is a cycle of F frames: which tasks run in each of them, and which cells are voted in it. A node's counter says
+ * which frame of the cycle comes next.
+ *
+ *   name         letter   limits    (in struct ragbasalt_plan)
+ *   nodes        n        1 to 7
+ *   frames       F        1 to 16   the frames of the plan's cycle
+ *   cells        C        1 to 32   initial[c] is cell c's pattern at power-on
+ *   sensors      S        1 to 16
+ *   actuators    A        1 to 8    actuator_cells[i] is the cell of actuator i
+ *   task_count            0 to 64   tasks[0] to tasks[task_count - 1]
+ *   votes                           bit c of votes[f] set: cell c is voted in frame f
+ *
+ * A task writes one cell, its target, in one frame. a and b are the values in the cells that it names:
+ *
+ *   kind       source   first    second   the target becomes
+ *   10 Take    sensor   0        0        the sensor's pattern as it is
+ *   11 Sum     cell a   cell b   0        a + b
+ *   12 Diff    cell a   cell b   0        a - b
+ *   13 Scale   cell a   factor   0        factor * a
+ *   14 Limit   cell a   low      high     low if a < low or a is a NaN; high if a > high; else a's own pattern
+ *   15 Wind    cell a   rate     cap      what Limit gives, from -cap to cap, of old + rate * a; old is the target's value
+ *                                         before the task, and product and sum are rounded each
+ *   16 Cam     cell a   0        0        entry(i) as a double; i is 0 if a < 0 or a is a NaN, 512 if a > 512, else the
+ *                                         whole part of a
+ *
+ * entry(i) = (1536 * i * i - 2 * i * i * i + 1024) / 2048 in whole numbers, the remainder dropped: 0, 32,768 and 65,536 at
+ * 0, 256 and 512. -cap is cap with its sign bit set: where cap is +0, Wind gives -0 for a NaN or a value below 0.
+ *
+ * The rules, beside the limits above:
+ * - a task's frame is below F, its target and the cells that it names below C, its sensor below S;
+ * - factor, low, high, rate and cap are finite; low <= high as doubles (+0 and -0 either way); cap has sign bit 0, so
+ *   that -0 is no cap;
+ * - what the table shows as 0 is 0;
+ * - the tasks' frames do not fall from one task to the next; tasks of one frame run in the order in which they stand;
+ * - votes are of frames below F and of cells below C; actuator_cells are below C;
+ * - there is a recovery period (section 5);
+ * - what is past the counts is 0: initial from C, votes from F, actuator_cells from A; and each task from task_count on
+ *   is 10 0 0 0 0 0.
+ *
+ * A struct that keeps all of them is a plan; every other one is refused with 7. To learn which rule is broken, write the
+ * lines of section 6 by a program of your own and read them with ragbasalt_plan_read: it names the rule and the line.
+ *
+ * 5. The recovery period R
+ *
+ * R is the number of good frames after which a node's memory is right again, whatever was in it, while more than half of
+ * the nodes work. It follows from the plan alone. After the first good frame the cells voted in it are known, and no others.
+ * In each later frame the tasks are gone through in order: a target becomes known if all cells that the task reads are known,
+ * and unknown if not (Take reads no cell, Sum and Diff a and b, Wind a and its target, the others a); then the cells voted in
+ * that frame become known. R is the least number of good frames after which all cells are known, whichever frame of the cycle
+ * came first: from 1 to 1 + F * C, so at most 513. Where every cell is voted in every frame it is 1. A cell that no task
+ * writes and that is never voted is never known. A plan without R is refused, a text with 6 and a struct with 7.
+ *
+ * 6. The text of a plan
+ *
+ * Lines of 57 bytes: six numbers in columns of width 4, 4, 4, 4, 20, 20, then a line feed (byte 10). A number is unsigned
+ * and decimal, at most 2^64 - 1, right-justified with blanks (byte 32) before it; no sign, no zeros before it, and 0 is `0`.
+ * In C: printf("%4u%4u%4u%4u%20" PRIu64 "%20" PRIu64 "\n", ..), each number having room in its column.
+ *
+ *   1st        2nd        3rd       4th      5th       6th
+ *   0          n          F         C        S         A         the header
+ *   1          cell       0         0        initial   0         a cell
+ *   10 to 16   frame      target    source   first     second    a task
+ *   20         frame      cell      0        0         0         a vote
+ *   30         actuator   cell      0        0         0         an actuator
+ *
+ * In this order: one header; cells 0 to C - 1; tasks, frames not falling; votes, strictly rising by frame and, in a frame,
+ * by cell; actuators 0 to A - 1. Tasks or votes may be missing. The longest text has 617 lines, 35,169 bytes. A plan has one
+ * text and one struct: reading and writing undo each other.
+ *
+ * An example: three nodes; cell 0 takes the sensor in frame 0; cell 1 becomes cell 0 + cell 1 in frame 1, is voted there,
+ * and is the setpoint. R is 3.
+ *
+ *      0   3   2   2                   1                   1
+ *      1   0   0   0                   0                   0
+ *      1   1   0   0                   0                   0
+ *     10   0   0   0                   0                   0
+ *     11   1   1   0                   1                   0
+ *     20   1   1   0                   0                   0
+ *     30   0   1   0                   0                   0
+ *
+ * 7. A run and its listing
+ *
+ * A run is a file of lines, one for each frame from power-on, of 9 + 20 * S bytes: mask (width 4), fill (4), S sensor
+ * patterns (20 each), a line feed; columns as in section 6. The mask's nodes are bad in the frame, and all its fault bytes
+ * (section 8) are fill, 0 to 255. There are at most 100,000 lines.
+ *
+ * A line of the listing has 21 + 20 * A bytes: frame number (width 8), how many nodes worked in the frame (4), how many were
+ * equal after it (4), A setpoints that the plane hands on (20 each), the agreement (4), a line feed. A refusal's line has
+ * 13: its number (4) and the line that it is about (8), a line feed. It ends a listing.
+ *
+ * To list `file`, `length` bytes, under the plan text `text`, line by line:
+ *
+ *   uint8_t line[RAGBASALT_MAX_LINE_BYTES];
+ *   size_t at = 0, count;
+ *   ragbasalt_answer answer = ragbasalt_listing_start(text, text_length, &plan, &run);
+ *   while (answer == RAGBASALT_DONE) {
+ *       answer = ragbasalt_listing_next(&plan, &run, file + at, length - at, line, sizeof line, &count);
+ *       if (count == 0)
+ *           break;                           (the end of the file, or a refusal)
+ *       fwrite(line, 1, count, stdout);
+ *       at += 9 + 20 * (size_t)plan.sensors; (a line that was run had all its bytes)
+ *   }
+ *   if (ragbasalt_listing_refusal(answer, line, sizeof line, &count) == RAGBASALT_DONE)
+ *       fwrite(line, 1, count, stdout);      (no byte where nothing was refused)
+ *
+ * 8. Messages, mailboxes, fault bytes
+ *
+ * Numbers in them are big-endian. With m = 2 + 8 * C:
+ *
+ *   message       m bytes: the counter (2), cells 0 to C - 1 (8 each), 0 where a cell is not voted
+ *   mailbox       n * m bytes: the n messages that a node got, node 0's first, its own among them; one that did not come
+ *                 is m zero bytes
+ *   fault bytes   n * p bytes, p = (n + 1) * m + 8 * A: for each node j, from 0 on, p bytes at j * p:
+ *                   its memory after the frame, as a message with all its cells     m bytes at j * p
+ *                   its message to node i, for i from 0 to n - 1                    m bytes at j * p + (1 + i) * m
+ *                   its setpoint k, for k from 0 to A - 1                           8 bytes at j * p + (n + 1) * m + 8 * k
+ *
+ * Only the bytes of bad nodes count, and of their messages only those to good nodes. Good nodes send one message to all.
+ *
+ * 9. Answers
+ *
+ * A call answers number + 256 * line, and 0 where it is done (ragbasalt_number_of and ragbasalt_line_of take it apart).
+ * The line counts from 1 and is 0 where no line is meant.
+ *
+ *   number   refused is                                                                        line
+ *   1        a text of length 0, above 35,169, or no multiple of 57                            0
+ *   2        a column or line end not of the form of section 6, or a number above 2^64 - 1     of the text
+ *   3        a first line that is no header, or a header number outside its limits             1
+ *   4        an unknown kind; a line out of order, also a cell or an actuator that is not      of the text
+ *            the next one due; a 65th task; at the end, cells or actuators that are missing    (missing: one past the last)
+ *   5        any other index out of range, what has to be 0 and is not, a constant             of the text
+ *            against the rules of section 4
+ *   6        a text without a recovery period                                                  0
+ *   7        a struct that is no plan                                                          0
+ *   8        a length that is not exact (sensors, setpoints, a message, a mailbox, fault       0
+ *            bytes), or a place that is too short (a text, a line, histories)
+ *   9        a mask of 2^n or above; a good count above R, of one of the n nodes               0
+ *   10       a run line that is not of its form, a mask of 2^n or above or a fill above 255    of the run
+ *            in it, or any byte after line 100,000 (line 100,001)
+ *   11       histories of a plan of more than 5 nodes, or of a length that is not 1 to 4       0
+ *
+ * A text is refused with 1 first, then by its first bad line, and in one line with 2, 3, 4, 5 in this order; last come
+ * missing lines (4), then 6. Other calls try 7, 9, 11, 8 and 10 in this order; each call below names those that it can give.
+ *
+ * Refused, every word and byte that was lent stays as it was, but for the one number that a call gives (count, period,
+ * agreement), which is then 0. Not refused, a call on a memory, a system or a run writes the words of the plan's n nodes and
+ * C cells; all words past them stay. Power-on writes all words, zeros past the plan's.
+ *
+ * Any words may stand in a memory, a system or a run: a counter counts by its low 16 bits, and is written with those above
+ * them 0; a good count above 65,535 counts as 65,535, which is above every R.
+ *
+ * 10. What a caller must keep to
+ *
+ * - A pointer is valid for its whole length, which is counted in elements, is aligned for its type, and is not null where
+ *   the length is not 0; a pointer to a struct or to one number is valid and not null.
+ * - The buffers of one call do not overlap each other.
+ * - No other thread reads or writes a buffer while a call has it. The archive has no state of its own, so calls on different
+ *   buffers may run at once.
+ * - There is stack. Measured on this archive, a call takes below its caller at most 25,300 bytes on a plan or on one node,
+ *   29,900 on a system, 27,100 for ragbasalt_listing_start and 61,900 for ragbasalt_listing_next. Allow for some more.
+ *
+ * Everything else is answered: no content of a buffer, no length, no mask and no number makes a call trap or run for ever.
+ *
+ * The archive is for the System V calling convention. It needs memcpy and memset, allocates nothing, and uses the red zone:
+ * a kernel that calls it is built to spare that.
  */
 #ifndef RAGBASALT_H
 #define RAGBASALT_H
@@ -29,7 +238,8 @@
 extern "C" {
 #endif
 
-/* It rises where a struct, a parameter, a layout or a meaning changes. A program built with the header of another version does not link: it asks for a function that the archive does not have. */
+/* It rises where a struct, a parameter, a layout or a meaning changes. A program built with the header of another version
+ * does not link: it asks for a function that the archive does not have. */
 #define RAGBASALT_VERSION 3u
 uint64_t ragbasalt_version_3(void);
 #if defined(__has_attribute)
@@ -47,7 +257,7 @@ RAGBASALT_KEPT static uint64_t (*const ragbasalt_version_of_header)(void) = ragb
 
 /* ---- limits */
 
-/* The most that a plan can have. */
+/* The most that a plan can have; the least is 1, and 0 of tasks. */
 #define RAGBASALT_MAX_NODES 7u
 #define RAGBASALT_MAX_FRAMES 16u
 #define RAGBASALT_MAX_CELLS 32u
@@ -61,17 +271,17 @@ RAGBASALT_KEPT static uint64_t (*const ragbasalt_version_of_header)(void) = ragb
 #define RAGBASALT_MAX_MAILBOX_BYTES (RAGBASALT_MAX_NODES * RAGBASALT_MAX_MESSAGE_BYTES)
 #define RAGBASALT_MAX_FAULTS_BYTES (RAGBASALT_MAX_NODES * ((RAGBASALT_MAX_NODES + 1u) * RAGBASALT_MAX_MESSAGE_BYTES + 8u * RAGBASALT_MAX_ACTUATORS))
 
-/* A line of a run's listing, the longest; the line of a refusal. */
+/* The longest line of a listing; the line of a refusal. */
 #define RAGBASALT_MAX_LINE_BYTES 181u
 #define RAGBASALT_REFUSAL_LINE_BYTES 13u
 
-/* Fault histories are listed for plans of at most so many nodes, and for 1 to so many frames. The bytes are those of 5 nodes, R = 1 and 4 frames, 7,396 histories: counted, not proved, to be the most; a
- * place that is too short is refused with 8. */
+/* Fault histories are listed for plans of at most so many nodes, and for 1 to so many frames. The bytes are those of 5
+ * nodes, R = 1 and 4 frames, 7,396 histories: counted, not proved, to be the most. */
 #define RAGBASALT_MAX_HISTORIES_NODES 5u
 #define RAGBASALT_MAX_HISTORIES_FRAMES 4u
 #define RAGBASALT_MAX_HISTORIES_BYTES 29584u
 
-/* ---- answers */
+/* ---- answers (section 9) */
 
 typedef uint64_t ragbasalt_answer;
 
@@ -86,17 +296,17 @@ typedef uint64_t ragbasalt_answer;
 
 enum ragbasalt_number {
     RAGBASALT_DONE = 0,
-    RAGBASALT_REFUSED_TEXT_LENGTH = 1,   /* a text of length 0, above 35,169, or no multiple of 57 */
-    RAGBASALT_REFUSED_MALFORMED = 2,     /* a column or line end not of form, a number too large */
-    RAGBASALT_REFUSED_HEADER = 3,        /* the first line is no header, or a header number is outside its limits */
-    RAGBASALT_REFUSED_ORDER = 4,         /* an unknown kind, a line out of order, a 65th task, missing cells or actuators */
-    RAGBASALT_REFUSED_RANGE = 5,         /* an index out of range, an unused column not 0, a constant against the rules */
-    RAGBASALT_REFUSED_UNRECOVERABLE = 6, /* there is no recovery period */
-    RAGBASALT_REFUSED_PLAN = 7,          /* a plan that no accepted text has */
-    RAGBASALT_REFUSED_LENGTH = 8,        /* sensors, setpoints, messages, mailboxes or fault bytes not of their length, or a place for a text, a line or histories too short */
-    RAGBASALT_REFUSED_MASK = 9,          /* a mask of 2^nodes or above, or a good count above the recovery period */
-    RAGBASALT_REFUSED_RUN_LINE = 10,     /* a line of a run not of form, with a mask or a fill too large, or past frame 100,000 */
-    RAGBASALT_REFUSED_HISTORIES = 11     /* more nodes, or a history of another length, than histories are listed for */
+    RAGBASALT_REFUSED_TEXT_LENGTH = 1,
+    RAGBASALT_REFUSED_MALFORMED = 2,
+    RAGBASALT_REFUSED_HEADER = 3,
+    RAGBASALT_REFUSED_ORDER = 4,
+    RAGBASALT_REFUSED_RANGE = 5,
+    RAGBASALT_REFUSED_UNRECOVERABLE = 6,
+    RAGBASALT_REFUSED_PLAN = 7,
+    RAGBASALT_REFUSED_LENGTH = 8,
+    RAGBASALT_REFUSED_MASK = 9, /* or a good count */
+    RAGBASALT_REFUSED_RUN_LINE = 10,
+    RAGBASALT_REFUSED_HISTORIES = 11
 };
 
 static inline unsigned ragbasalt_number_of(ragbasalt_answer answer)
@@ -110,17 +320,17 @@ static inline uint64_t ragbasalt_line_of(ragbasalt_answer answer)
     return answer >> 8;
 }
 
-/* ---- plans, memories, systems, runs. Patterns are the 64 bits of IEEE 754 binary64 values. */
+/* ---- plans, memories, systems, runs: structs of 64-bit words */
 
-/* The kinds of a task. */
+/* The kinds of a task; what they compute and what source, first and second are is in section 4. */
 enum ragbasalt_kind {
-    RAGBASALT_TAKE = 10,  /* source: a sensor */
-    RAGBASALT_SUM = 11,   /* source: cell a; first: cell b */
-    RAGBASALT_DIFF = 12,  /* source: cell a; first: cell b */
-    RAGBASALT_SCALE = 13, /* source: cell a; first: factor, a pattern */
-    RAGBASALT_LIMIT = 14, /* source: cell a; first, second: low, high, patterns */
-    RAGBASALT_WIND = 15,  /* source: cell a; first, second: rate, cap, patterns */
-    RAGBASALT_CAM = 16    /* source: cell a */
+    RAGBASALT_TAKE = 10,
+    RAGBASALT_SUM = 11,
+    RAGBASALT_DIFF = 12,
+    RAGBASALT_SCALE = 13,
+    RAGBASALT_LIMIT = 14,
+    RAGBASALT_WIND = 15,
+    RAGBASALT_CAM = 16
 };
 
 /* What a kind does not have is 0; an unused task is 10 0 0 0 0 0. */
@@ -128,7 +338,7 @@ typedef struct ragbasalt_task {
     uint64_t kind, frame, target, source, first, second;
 } ragbasalt_task;
 
-/* What is past the counts is zero, but for the kind of unused tasks. */
+/* What is past the counts is zero, but for the kind of unused tasks, which is 10. */
 typedef struct ragbasalt_plan {
     uint64_t nodes, frames, cells, sensors, actuators, task_count;
     uint64_t initial[RAGBASALT_MAX_CELLS]; /* patterns */
@@ -147,12 +357,12 @@ typedef struct ragbasalt_system {
     uint64_t good[RAGBASALT_MAX_NODES]; /* good counts */
 } ragbasalt_system;
 
-/* A run of a listing between two lines. */
+/* A run between two lines. */
 typedef struct ragbasalt_run {
     ragbasalt_system system;
     ragbasalt_memory single; /* the single controller's */
-    uint64_t period;         /* R; found anew by each call */
-    uint64_t frame;          /* the number of the next frame */
+    uint64_t period;         /* R; what stands here counts for nothing, each call finds R anew */
+    uint64_t frame;          /* the number of the next frame: its line's number less 1 */
 } ragbasalt_run;
 
 #if defined(__cplusplus)
@@ -167,80 +377,88 @@ RAGBASALT_ASSERT(sizeof(ragbasalt_system) == 8 * 238 && offsetof(ragbasalt_syste
 RAGBASALT_ASSERT(sizeof(ragbasalt_run) == 8 * 273 && offsetof(ragbasalt_run, single) == 8 * 238 && offsetof(ragbasalt_run, period) == 8 * 271);
 #undef RAGBASALT_ASSERT
 
-/* ---- plans */
+/* ---- plans (sections 4 to 6) */
 
-/* Writes the plan of a text. 1 to 6 with the line. */
+/* Writes the plan of a text. 1 to 6. */
 RAGBASALT_ANSWER ragbasalt_plan_read(const uint8_t *text, size_t text_length, ragbasalt_plan *plan);
 
-/* Writes the plan's text at the front of `text`, leaves what is after it, and gives its bytes in `count`. 7; 8 where the text does not fit. */
+/* Writes the plan's text at the front of `text`, leaves what is after it, and gives its bytes in `count`. 7; 8 where
+ * `text` has fewer bytes. */
 RAGBASALT_ANSWER ragbasalt_plan_write(const ragbasalt_plan *plan, uint8_t *text, size_t text_length, size_t *count);
 
-/* 0 for an accepted plan, or 7. */
+/* 0 for a plan, or 7. */
 RAGBASALT_ANSWER ragbasalt_plan_check(const ragbasalt_plan *plan);
 
 /* Gives the recovery period R in `period`. 7. */
 RAGBASALT_ANSWER ragbasalt_plan_period(const ragbasalt_plan *plan, size_t *period);
 
-/* Lists the fault histories of `frames` frames from power-on: the sequences of masks in which every frame has more than half of the nodes working, each once,
- * ascending with the first frame leading. Writes them at the front of `masks`, one byte a mask, leaves what is after them, and gives in `count` how many
- * histories they are. 7; 11 for more than 5 nodes, or `frames` not 1 to 4; 8 where they do not fit: `masks` has fewer than count * frames bytes. */
+/* Lists the fault histories of `frames` frames from power-on: the sequences of masks in which every frame has more than
+ * half of the nodes working, each once, rising as sequences, the first frame's mask leading. Writes them at the front of
+ * `masks`, one byte a mask, leaves what is after them, and gives in `count` how many histories they are. 7; 11 for more
+ * than 5 nodes, or `frames` not 1 to 4; 8 where `masks` has fewer than count * frames bytes. */
 RAGBASALT_ANSWER ragbasalt_plan_histories(const ragbasalt_plan *plan, size_t frames, uint8_t *masks, size_t masks_length, size_t *count);
 
-/* The bytes of a message, of a mailbox, of the fault bytes and of the text. No answers: 0 for a plan that 7 refuses. */
+/* The bytes of a message, of a mailbox, of the fault bytes and of the text. No answers: 0 for a struct that is no plan. */
 size_t ragbasalt_message_size(const ragbasalt_plan *plan);
 size_t ragbasalt_mailbox_size(const ragbasalt_plan *plan);
 size_t ragbasalt_faults_size(const ragbasalt_plan *plan);
 size_t ragbasalt_text_size(const ragbasalt_plan *plan);
 
-/* ---- one node. Any memory is taken, whatever a fault left in it. 7, 8. */
+/* ---- one node (section 2). Any memory is taken, whatever a fault left in it. In a frame a board calls compute and message,
+ * exchanges the messages, then calls vote and setpoints. */
 
 /* Writes the memory at power-on: counter 0, the initial patterns, zeros past them. 7. */
 RAGBASALT_ANSWER ragbasalt_node_power_on(const ragbasalt_plan *plan, ragbasalt_memory *memory);
 
-/* Runs the tasks of the counter's frame on the memory and moves the counter on. `sensors`: the plan's sensors. */
+/* Computes: runs the tasks of frame counter mod F on the memory and moves the counter on. `sensors`: S patterns. 7, 8. */
 RAGBASALT_ANSWER ragbasalt_node_compute(const ragbasalt_plan *plan, ragbasalt_memory *memory, const uint64_t *sensors, size_t sensors_length);
 
-/* Writes the message of the memory: its counter, then its cells, zero where not voted, big-endian. `message`: ragbasalt_message_size bytes. */
+/* Writes the message of a memory that has computed; the cells in it are those voted in frame (counter + F - 1) mod F.
+ * `message`: ragbasalt_message_size bytes. 7, 8. */
 RAGBASALT_ANSWER ragbasalt_node_message(const ragbasalt_plan *plan, const ragbasalt_memory *memory, uint8_t *message, size_t message_length);
 
-/* Votes: takes over what more than half of the mailbox share. `mailbox`: the messages of all nodes, node 0 first, the node's own among them. Gives in `agreement`
- * how many of them hold the voted value, the least over the counter and the voted cells; where no value has more than half, that is 0. */
+/* Votes: takes over into the memory what more than half of the messages hold. `mailbox`: ragbasalt_mailbox_size bytes. Gives
+ * the vote's agreement in `agreement`. 7, 8. */
 RAGBASALT_ANSWER ragbasalt_node_vote(const ragbasalt_plan *plan, ragbasalt_memory *memory, const uint8_t *mailbox, size_t mailbox_length, size_t *agreement);
 
-/* Writes the memory's setpoints. `setpoints`: the plan's actuators. */
+/* Writes the memory's setpoints. `setpoints`: A patterns. 7, 8. */
 RAGBASALT_ANSWER ragbasalt_node_setpoints(const ragbasalt_plan *plan, const ragbasalt_memory *memory, uint64_t *setpoints, size_t setpoints_length);
 
-/* A frame of the single controller, which never votes: computes on the memory, then writes its setpoints. */
+/* A frame of the single controller: computes on the memory, then writes its setpoints. 7, 8. */
 RAGBASALT_ANSWER ragbasalt_single_frame(const ragbasalt_plan *plan, ragbasalt_memory *memory, const uint64_t *sensors, size_t sensors_length, uint64_t *setpoints,
                                         size_t setpoints_length);
 
-/* ---- the whole system. 7, 9, 8. */
+/* ---- the whole system: n nodes and the plane */
 
-/* Writes the record at power-on: every node's memory at power-on, its good count R; zeros past the nodes. 7. */
+/* Writes the system at power-on: every node's memory at power-on, its good count R; zeros past the nodes. 7. */
 RAGBASALT_ANSWER ragbasalt_system_power_on(const ragbasalt_plan *plan, ragbasalt_system *system);
 
-/* A frame: writes the record after it and the voted setpoints. Bit i of `mask` set: node i is bad, and its bytes in `faults` are its memory, its messages by
- * receiver and its setpoints. `faults`: ragbasalt_faults_size bytes. Gives in `agreement` the least agreement of the good nodes' votes, 0 if all nodes are bad. */
+/* A frame of all nodes: writes the system after it, and in `setpoints` what the plane hands on. The nodes of `mask` are bad,
+ * and `faults`, ragbasalt_faults_size bytes, has what they hold, send and put out (section 8). `sensors`: S patterns,
+ * `setpoints`: A. Gives the frame's agreement in `agreement`. 7, 9, 8. */
 RAGBASALT_ANSWER ragbasalt_system_frame(const ragbasalt_plan *plan, ragbasalt_system *system, const uint64_t *sensors, size_t sensors_length, uint64_t mask,
                                         const uint8_t *faults, size_t faults_length, uint64_t *setpoints, size_t setpoints_length, size_t *agreement);
 
-/* Gives in `count` how many nodes work in a frame with this mask; the good counts are those before it. 7, 9. */
+/* Gives in `count` how many nodes work in a frame with this mask; to be called before the frame. 7, 9. */
 RAGBASALT_ANSWER ragbasalt_system_working(const ragbasalt_plan *plan, const ragbasalt_system *system, uint64_t mask, size_t *count);
 
-/* Gives in `count` how many nodes have this memory, by bits: counter and the plan's cells. 7, 9. */
+/* Gives in `count` how many nodes have this memory: counter and C cells, bit for bit. 7, 9. */
 RAGBASALT_ANSWER ragbasalt_system_equal(const ragbasalt_plan *plan, const ragbasalt_system *system, const ragbasalt_memory *memory, size_t *count);
 
-/* ---- a run and its listing, line by line */
+/* ---- a run and its listing, line by line (section 7) */
 
-/* Writes the plan of a text and its run at power-on. 1 to 6 with the line. */
+/* Writes the plan of a text and its run at power-on. 1 to 6. */
 RAGBASALT_ANSWER ragbasalt_listing_start(const uint8_t *text, size_t text_length, ragbasalt_plan *plan, ragbasalt_run *run);
 
-/* Reads the first line of `rest`, what is left of a run file, runs its frame, writes the listing's line at the front of `line`, leaves what is after it, and gives its bytes in `count`; at the end of the file
- * no line is written and `count` is 0. 7, 9; 8 where the line does not fit; 10 with the run line's number. */
+/* Reads the first 9 + 20 * S bytes of `rest`, what is left of a run file, as a line, runs its frame, writes the listing's
+ * line at the front of `line`, leaves what is after it, and gives its bytes in `count`. The next call takes `rest` from
+ * 9 + 20 * S bytes further on. At the end of the file, where `rest_length` is 0, no line is written and `count` is 0. 7; 9 for
+ * a good count; 8 where `line` has fewer than 21 + 20 * A bytes, at the end too; 10. */
 RAGBASALT_ANSWER ragbasalt_listing_next(const ragbasalt_plan *plan, ragbasalt_run *run, const uint8_t *rest, size_t rest_length, uint8_t *line, size_t line_length, size_t *count);
 
-/* Writes the line that a listing ends with where a call gave this answer, and gives its bytes in `count`: 0 for RAGBASALT_DONE and for a number that no call gives. The line's
- * number is the answer's for 2, 4, 5 and 10, 1 for 3 and 0 for the others. 8. */
+/* Writes the line that a listing ends with where a call gave this answer, at the front of `line`, and gives its bytes in
+ * `count`: 13, or 0 for RAGBASALT_DONE and for a number that no call gives. The line's number is the answer's for 2, 4, 5
+ * and 10, 1 for 3 and 0 for the others. 8 where `line` has fewer than 13 bytes. */
 RAGBASALT_ANSWER ragbasalt_listing_refusal(ragbasalt_answer answer, uint8_t *line, size_t line_length, size_t *count);
 
 #ifdef __cplusplus
