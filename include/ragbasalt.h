@@ -55,7 +55,8 @@
  * Sensors, cells, setpoints and the constants of tasks are patterns: 0 is +0.0, 0x3FF0000000000000 is 1.0. A sensor and an
  * initial pattern may be any, also a NaN or an infinity.
  *
- * Nodes, frames, cells, targets, sensors and actuators count from 0, lines of a text or of a run from 1. A mask is a set of nodes: bit i for node i.
+ * Nodes, frames, cells, targets, sensors and actuators count from 0, lines of a text or of a run from 1. A mask is a set of
+ * nodes: bit i for node i.
  *
  * Each sum, difference and product is rounded once, to nearest, ties to even; subnormal values are kept; a NaN that comes
  * out is always 0x7FF8000000000000.
@@ -220,10 +221,17 @@
  * - The buffers of one call do not overlap each other.
  * - No other thread reads or writes a buffer while a call has it. The archive has no state of its own, so calls on different
  *   buffers may run at once.
+ * - The calling thread's floating-point environment is the one that a thread has unless something changes it: rounding to
+ *   nearest, subnormal results not flushed to zero, subnormal operands not read as zero, every exception masked (MXCSR
+ *   0x1F80, its six flags left aside). Each thread has its own. It is changed by fesetround, feenableexcept and
+ *   _mm_setcsr, and in a whole program by linking with -Ofast or -ffast-math (gcc, clang), which sets both flushes before
+ *   main. In another environment setpoints differ in their last bit or are 0, plans against the rules are accepted, and with an
+ *   exception unmasked a call can end by a signal. ragbasalt_arithmetic_holds, the last function below, tells.
  * - There is stack. Measured on this archive, a call takes below its caller at most 25,300 bytes on a plan or on one node,
  *   29,900 on a system, 27,100 for ragbasalt_listing_start and 61,900 for ragbasalt_listing_next. Allow for some more.
  *
- * Everything else is answered: no content of a buffer, no length, no mask and no number makes a call trap or run for ever.
+ * Everything else is answered: with these kept no content of a buffer, no length, no mask and no number makes a call trap or
+ * run for ever.
  *
  * The archive is for the System V calling convention. It needs memcpy and memset, allocates nothing, and uses the red zone:
  * a kernel that calls it is built to spare that.
@@ -460,6 +468,70 @@ RAGBASALT_ANSWER ragbasalt_listing_next(const ragbasalt_plan *plan, ragbasalt_ru
  * `count`: 13, or 0 for RAGBASALT_DONE and for a number that no call gives. The line's number is the answer's for 2, 4, 5
  * and 10, 1 for 3 and 0 for the others. 8 where `line` has fewer than 13 bytes. */
 RAGBASALT_ANSWER ragbasalt_listing_refusal(ragbasalt_answer answer, uint8_t *line, size_t line_length, size_t *count);
+
+/* ---- the thread's arithmetic (section 10) */
+
+/* 1 if the archive's arithmetic is IEEE 754's in this thread, 0 if not; to be asked once in each thread, before its first
+ * call. It lets the archive compute on hard operands: ties, subnormals, a product that overflows. All are integers here, so
+ * that no compiler works them out beforehand. Exceptions that are not masked are seen where the compiler is gcc or clang;
+ * with another one a call made here can end by their signal. Takes 4 KB of stack beside the call's. */
+static inline int ragbasalt_arithmetic_holds(void)
+{
+    static const uint64_t operands[7] = {
+        UINT64_C(0x3FF0000000000000), /* cell 0: 1 */
+        UINT64_C(0x3FF0000000000001), /* cell 1: 1 + 2^-52 */
+        UINT64_C(0x3CA0000000000000), /* cell 2: 2^-53 */
+        UINT64_C(0x7FEFFFFFFFFFFFFF), /* cell 3: the largest finite value */
+        UINT64_C(0x0010000000000000), /* cell 4: 2^-1022, the least positive value that is not subnormal */
+        UINT64_C(0x0000000000000003), /* cell 5: 3 * 2^-1074 */
+        UINT64_C(0xBFF0000000000002)  /* cell 6: -(1 + 2^-51) */
+    };
+    static const ragbasalt_task steps[10] = {
+        {RAGBASALT_SUM, 0, 7, 0, 2, 0}, /* ties */
+        {RAGBASALT_SUM, 0, 8, 1, 2, 0},
+        {RAGBASALT_DIFF, 0, 9, 2, 1, 0},
+        {RAGBASALT_SCALE, 0, 10, 3, UINT64_C(0x4000000000000000), 0}, /* 2 * a overflows */
+        {RAGBASALT_SCALE, 0, 11, 4, UINT64_C(0x3FE0000000000000), 0}, /* a / 2 is subnormal */
+        {RAGBASALT_SCALE, 0, 12, 5, UINT64_C(0x3FE0000000000000), 0}, /* the same, and a tie */
+        {RAGBASALT_SUM, 0, 13, 4, 5, 0},                              /* b is subnormal, the sum is not */
+        {RAGBASALT_LIMIT, 0, 14, 5, 0, 0},                            /* a, which is subnormal, is above 0 */
+        {RAGBASALT_WIND, 0, 6, 1, UINT64_C(0x3FF0000000000001), UINT64_C(0x3FF0000000000000)}, /* +0 if rounded twice */
+        {RAGBASALT_TAKE, 0, 0, 0, 0, 0}                               /* unused */
+    };
+    static const uint64_t results[9] = {
+        UINT64_C(0x3FF0000000000000), UINT64_C(0x3FF0000000000002), UINT64_C(0xBFF0000000000000),
+        UINT64_C(0x7FF0000000000000), UINT64_C(0x0008000000000000), UINT64_C(0x0000000000000002),
+        UINT64_C(0x0010000000000003), 0, 0
+    };
+    ragbasalt_plan plan;
+    ragbasalt_memory memory;
+    const uint64_t sensor = 0;
+    size_t i;
+#if defined(__GNUC__) && defined(__SSE__)
+    if ((__builtin_ia32_stmxcsr() & 0x1F80u) != 0x1F80u)
+        return 0;
+#endif
+    plan.nodes = plan.frames = plan.sensors = plan.actuators = 1;
+    plan.cells = 15;
+    plan.task_count = 9;
+    memory.counter = 0;
+    for (i = 0; i < RAGBASALT_MAX_CELLS; i++) {
+        plan.initial[i] = 0;
+        memory.cells[i] = i < 7 ? operands[i] : 0;
+    }
+    for (i = 0; i < RAGBASALT_MAX_TASKS; i++)
+        plan.tasks[i] = steps[i < 9 ? i : 9];
+    for (i = 0; i < RAGBASALT_MAX_FRAMES; i++)
+        plan.votes[i] = i == 0 ? 0x7FFF : 0;
+    for (i = 0; i < RAGBASALT_MAX_ACTUATORS; i++)
+        plan.actuator_cells[i] = 0;
+    if (ragbasalt_node_compute(&plan, &memory, &sensor, 1) != RAGBASALT_DONE)
+        return 0;
+    for (i = 0; i < 9; i++)
+        if (memory.cells[steps[i].target] != results[i])
+            return 0;
+    return 1;
+}
 
 #ifdef __cplusplus
 }

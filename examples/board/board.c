@@ -2,7 +2,8 @@
  *
  * It reads plan.txt and run.txt in the current folder, as the program `run` does, and prints per frame the frame number (width 8), the setpoints that the
  * plane hands on (20 each) and the least agreement of the good nodes (4): the listing without its counts of working and equal nodes, which no single board can
- * know. The plane is the loop `plane` below; on a press the drives do it. A refusal goes to the error output, with exit status 1. */
+ * know. The plane is the loop `plane` below; on a press the drives do it. A refusal goes to the error output, with exit status 1; where the arithmetic is not the
+ * one that the library needs, nothing is computed, and the status is 2. */
 #include <inttypes.h>
 #include <stdio.h>
 #include <stdlib.h>
@@ -157,6 +158,10 @@ int main(void)
     size_t i, a;
     FILE *run;
 
+    if (!ragbasalt_arithmetic_holds()) {
+        fputs("board: this thread's arithmetic is not IEEE 754's: its rounding, a flush of subnormal values to zero (as cc -Ofast sets it), or an exception that is not masked\n", stderr);
+        return 2;
+    }
     done("plan.txt", ragbasalt_plan_read(text, contents("plan.txt", text, sizeof text), &plan));
     nodes = (size_t)plan.nodes;
     cells = (size_t)plan.cells;

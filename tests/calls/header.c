@@ -235,7 +235,7 @@ int main(void)
     size_t at, one, s, a, i, working, equal, agreement, count, period;
     char line[RAGBASALT_MAX_LINE_BYTES + 1], *end;
 
-    HOLD(ragbasalt_version_3() == RAGBASALT_VERSION);
+    HOLD(ragbasalt_version_3() == RAGBASALT_VERSION && ragbasalt_arithmetic_holds() == 1);
     HOLD(ragbasalt_plan_read(text, length, &plan) == RAGBASALT_DONE && whole < sizeof lines);
     if (failures)
         return 1;
