@@ -2,8 +2,8 @@
 
 use super::damage;
 use super::generate::{
-    assemble, chain, longest, never, plan_text, quick, recovering, run, run_text, slow, votes,
-    Masks, OUTSIDE,
+    assemble, chain, longest, never, plan_text, quick, recovering, run, run_text, slow, slowest,
+    votes, Masks, OUTSIDE,
 };
 use super::listing::MOST_LINES;
 use super::plan::{read, Row};
@@ -58,6 +58,19 @@ pub const HISTORIES_CLASSES: [(&str, u64); 12] = [
 pub const LIMITS: [(&str, u64); 3] =
     [("100,000 lines", 999), ("100,001 lines", 1999), ("100,001 lines, last damaged", 2999)];
 
+/// The classes of runs that are longer than a block of lines. The run program reads, runs and
+/// prints 128 lines at a time, so that the first line of the next block is a place of its own.
+pub const BLOCKS_CLASSES: [(&str, u64); 6] = [
+    ("damaged near a block's edge", 48),
+    ("damaged past the first lines", 10),
+    ("ends near a block's edge", 20),
+    ("damaged near an edge far on", 8),
+    ("damaged near line 100,000", 2),
+    ("recoveries, R above 60", 12),
+];
+
+pub const BLOCK: usize = 128;
+
 /// A plan for the classes that damage it; now and then one that 6 would refuse.
 fn any_plan(r: &Random, values: &Values) -> Vec<Row> {
     match r.below(12) {
@@ -68,12 +81,17 @@ fn any_plan(r: &Random, values: &Values) -> Vec<Row> {
     }
 }
 
+/// A small plan, for long runs.
+fn small_plan(r: &Random, values: &Values) -> Vec<Row> {
+    let sizes = [3, r.between(1, 2), r.between(1, 2), 1, 1];
+    let middle = [chain(r, values, sizes), votes(r, sizes, 50)].concat();
+    assemble(r, values, sizes, &middle)
+}
+
 /// A small plan and a run of 100,000 lines or one more.
 fn limit_case(r: &Random, class: &'static str) -> Case {
     let values = &Values::new(r);
-    let sizes = [3, r.between(1, 2), r.between(1, 2), 1, 1];
-    let middle = [chain(r, values, sizes), votes(r, sizes, 50)].concat();
-    let rows = assemble(r, values, sizes, &middle);
+    let rows = small_plan(r, values);
     let plan = read(&plan_text(&rows)).expect("a chain has a recovery period");
     let surplus = usize::from(class != LIMITS[0].0);
     let mut run = run(r, &plan, values, Masks::Premise, MOST_LINES + surplus);
@@ -205,4 +223,42 @@ pub fn histories_case(seed: u64) -> Case {
         _ => damaged_plan(r, values, class, turn),
     };
     Case { class, plan: Some(plan).filter(|_| class != "plan.txt missing"), run: None }
+}
+
+/// A line, counted from 0, at most two before or one past the first line of a block.
+fn near_edge(r: &Random, blocks: usize) -> usize {
+    (BLOCK * blocks + r.below(4)).saturating_sub(2)
+}
+
+/// A run longer than a block of lines.
+pub fn blocks_case(seed: u64) -> Case {
+    let r = &Random::new(seed);
+    let (class, turn) = class_in(&BLOCKS_CLASSES, seed);
+    let values = &Values::new(r);
+    let far = class.ends_with("far on") || class.ends_with("100,000");
+    let rows = match class {
+        "recoveries, R above 60" => slowest(r, values, turn % 3 == 0),
+        _ if far => small_plan(r, values),
+        _ => recovering(r, values),
+    };
+    let plan = read(&plan_text(&rows)).expect("a plan with a recovery period");
+    // The line that is damaged, or that the run ends before, and how many lines there are.
+    let (line, count) = match class {
+        "damaged near a block's edge" => (near_edge(r, r.between(1, 3)), r.between(120, 400)),
+        "damaged past the first lines" => (r.between(22, 399), r.between(120, 400)),
+        "ends near a block's edge" => (near_edge(r, r.between(1, 3)), 0),
+        "damaged near an edge far on" => (near_edge(r, r.between(7, 150)), 0),
+        "damaged near line 100,000" => (MOST_LINES - 2 + turn % 3, MOST_LINES + 1),
+        _ => (0, 3 * plan.period + r.below(40)),
+    };
+    let masks = match class {
+        "recoveries, R above 60" => Masks::Seldom,
+        _ => r.pick(&[Masks::Premise, Masks::Any, Masks::Stretches]),
+    };
+    let damaged = class.starts_with("damaged");
+    let mut run = run(r, &plan, values, masks, count.max(line + usize::from(damaged)));
+    if damaged {
+        damage::run_at(r, &mut run, line, plan.nodes, plan.sensors, turn);
+    }
+    Case { class, plan: Some(plan_text(&rows)), run: Some(run) }
 }

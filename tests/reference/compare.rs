@@ -8,10 +8,14 @@ use std::process::{Command, Stdio};
 use std::sync::atomic::{AtomicU64, Ordering};
 use std::sync::Mutex;
 
-use super::cases::{case, histories_case, Case, CLASSES, HISTORIES_CLASSES, LIMITS};
+use super::cases::{
+    blocks_case, case, histories_case, Case, BLOCK, BLOCKS_CLASSES, CLASSES, HISTORIES_CLASSES,
+    LIMITS,
+};
 use super::check;
 use super::histories;
-use super::listing::{listing, Listing};
+use super::listing::{listing, Listing, MOST_LINES};
+use super::plan::read;
 
 const WORKERS: usize = 2;
 
@@ -24,8 +28,11 @@ pub struct Kind {
     expected: fn(&Case) -> Listing,
     classes: &'static [&'static [(&'static str, u64)]],
     refusals: &'static [u64],
+    /// What else is counted, and which of these a case is.
+    marks: &'static [&'static str],
+    mark: fn(&Case, &Listing) -> Option<&'static str>,
     lines: &'static str,
-    /// From this many cases on, each class and each refusal has to come up.
+    /// From this many cases on, each class, refusal and mark has to come up.
     enough: u64,
 }
 
@@ -36,6 +43,8 @@ pub static RUN: Kind = Kind {
     expected: |case| listing(&bytes(&case.plan), &bytes(&case.run)),
     classes: &[&CLASSES, &LIMITS],
     refusals: &[1, 2, 3, 4, 5, 6, 10],
+    marks: &[],
+    mark: |_, _| None,
     lines: "frames compared",
     enough: 3000,
 };
@@ -47,6 +56,8 @@ pub static HISTORIES: Kind = Kind {
     expected: |case| histories::text(&bytes(&case.plan)),
     classes: &[&HISTORIES_CLASSES],
     refusals: &[1, 2, 3, 4, 5, 6, 11],
+    marks: &[],
+    mark: |_, _| None,
     lines: "histories compared",
     enough: 1000,
 };
@@ -58,9 +69,58 @@ pub static CHECK: Kind = Kind {
     expected: |case| check::text(&bytes(&case.plan)),
     classes: &[&HISTORIES_CLASSES],
     refusals: &[1, 2, 3, 4, 5, 6],
+    marks: &[],
+    mark: |_, _| None,
     lines: "periods compared",
     enough: 1000,
 };
+
+pub static BLOCKS: Kind = Kind {
+    compare: "blocks",
+    case: "blocks-case",
+    make: blocks_case,
+    expected: |case| listing(&bytes(&case.plan), &bytes(&case.run)),
+    classes: &[&BLOCKS_CLASSES],
+    refusals: &[10],
+    marks: &BLOCKS_MARKS,
+    mark: blocks_mark,
+    lines: "frames compared",
+    enough: 400,
+};
+
+#[rustfmt::skip]
+const BLOCKS_MARKS: [&str; 11] = [
+    "refused, last line but one", "refused, last line of a block", "refused, first line of one",
+    "refused, second line", "refused elsewhere past line 22", "refused, line 99,999",
+    "refused, line 100,000", "refused, line 100,001", "ended with a block", "recovered, R above 60",
+    "recovered, R = 513",
+];
+
+/// Where the run was refused or ended, or that a node recovered, all nodes working again.
+fn blocks_mark(case: &Case, listing: &Listing) -> Option<&'static str> {
+    let marks = &BLOCKS_MARKS;
+    let Some(refusal) = listing.refusal else {
+        let plan = read(bytes(&case.plan)).ok()?;
+        let working = |line: &[u8]| line[11] - b'0';
+        let lines = listing.bytes.split_inclusive(|&byte| byte == b'\n').map(working);
+        let lines: Vec<_> = lines.collect();
+        let all = plan.nodes as u8;
+        let recovered = lines.windows(2).any(|two| two[0] < all && two[1] == all);
+        return match plan.period {
+            513 if recovered => Some(marks[10]),
+            61.. if recovered => Some(marks[9]),
+            _ if listing.lines > 0 && listing.lines % BLOCK == 0 => Some(marks[8]),
+            _ => None,
+        };
+    };
+    match (refusal.line, refusal.line % BLOCK) {
+        (line, _) if line + 1 >= MOST_LINES => Some(marks[5 + line + 1 - MOST_LINES]),
+        (..=22, _) => None,
+        (_, 127) => Some(marks[0]),
+        (_, edge @ ..=2) => Some(marks[1 + edge]),
+        _ => Some(marks[4]),
+    }
+}
 
 fn bytes(file: &Option<Vec<u8>>) -> &[u8] {
     file.as_deref().unwrap_or_default()
@@ -70,14 +130,18 @@ fn bytes(file: &Option<Vec<u8>>) -> &[u8] {
 struct Totals {
     classes: BTreeMap<&'static str, u64>,
     refusals: BTreeMap<u64, u64>,
+    marks: BTreeMap<&'static str, u64>,
     cases: u64,
     accepted: u64,
     lines: u64,
 }
 
 impl Totals {
-    fn add(&mut self, class: &'static str, listing: &Listing) {
+    fn add(&mut self, class: &'static str, listing: &Listing, mark: Option<&'static str>) {
         *self.classes.entry(class).or_default() += 1;
+        if let Some(mark) = mark {
+            *self.marks.entry(mark).or_default() += 1;
+        }
         if let Some(refusal) = listing.refusal {
             *self.refusals.entry(refusal.number).or_default() += 1;
         }
@@ -86,7 +150,7 @@ impl Totals {
         self.lines += listing.lines as u64;
     }
 
-    /// Prints the table; false if some class or refusal never came up.
+    /// Prints the table; false if some class, refusal or mark never came up.
     fn print(&self, kind: &Kind) -> bool {
         let mut complete = true;
         for (class, _) in kind.classes.iter().copied().flatten() {
@@ -98,6 +162,11 @@ impl Totals {
             let cases = self.refusals.get(&number).copied().unwrap_or(0);
             complete &= cases > 0;
             println!("{:<32}{cases:>10}", format!("refusal {number}"));
+        }
+        for mark in kind.marks {
+            let cases = self.marks.get(mark).copied().unwrap_or(0);
+            complete &= cases > 0;
+            println!("{mark:<32}{cases:>10}");
         }
         println!("{:<32}{:>10}", "accepted plans", self.accepted);
         println!("{:<32}{:>10}", kind.lines, self.lines);
@@ -149,7 +218,8 @@ impl Comparer {
         let output =
             Command::new(&self.program).current_dir(&folder).stdin(Stdio::null()).output()?;
         if output.stdout == expected.bytes {
-            self.totals.lock().unwrap().add(case.class, &expected);
+            let mark = (self.kind.mark)(&case, &expected);
+            self.totals.lock().unwrap().add(case.class, &expected, mark);
             fs::remove_dir_all(&folder)?;
             return Ok(None);
         }
@@ -202,7 +272,7 @@ impl Comparer {
         let totals = self.totals.into_inner().unwrap();
         let complete = totals.print(self.kind) || self.end - self.first < self.kind.enough;
         if !complete {
-            println!("some class or refusal above never came up");
+            println!("something above never came up");
             return false;
         }
         println!("{} cases equal", totals.cases);

@@ -359,6 +359,23 @@ pub fn run(r: &Random, text: &mut Vec<u8>, nodes: usize, sensors: usize, way: us
     }
 }
 
+/// Damages a line of a run, counted from 0; a damage to the end of a run lets the run end with this
+/// line.
+pub fn run_at(
+    r: &Random,
+    text: &mut Vec<u8>,
+    line: usize,
+    nodes: usize,
+    sensors: usize,
+    way: usize,
+) {
+    let length = 9 + 20 * sensors;
+    if way % 18 > 14 {
+        text.truncate((line + 1) * length);
+    }
+    run_line(r, text, line * length..(line + 1) * length, nodes, way);
+}
+
 /// Damages the run line that stands at `line` in the text.
 fn run_line(r: &Random, text: &mut Vec<u8>, line: Range<usize>, nodes: usize, way: usize) {
     let (start, end) = (line.start, line.end - 1);

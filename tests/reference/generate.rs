@@ -184,9 +184,23 @@ pub fn quick(r: &Random, values: &Values) -> Vec<Row> {
 }
 
 pub fn slow(r: &Random, values: &Values) -> Vec<Row> {
-    let sizes = sizes(r);
+    slow_of(r, values, sizes(r))
+}
+
+fn slow_of(r: &Random, values: &Values, sizes: Sizes) -> Vec<Row> {
     let tasks = chain(r, values, sizes);
     assemble(r, values, sizes, &tasks)
+}
+
+/// R is 1 + F x C and above 60, and 513 where `most`; three nodes or more.
+pub fn slowest(r: &Random, values: &Values, most: bool) -> Vec<Row> {
+    let mut sizes = sizes(r);
+    sizes[0] = r.between(3, 7);
+    [sizes[1], sizes[2]] = match most {
+        true => [16, 32],
+        false => [r.between(4, 16), r.between(15, 32)],
+    };
+    slow_of(r, values, sizes)
 }
 
 /// 617 lines: all sizes and counts at their upper limit.
@@ -229,6 +243,9 @@ pub enum Masks {
     Extreme,
     /// A mask stays for some frames, then another one or none.
     Stretches,
+    /// Fewer than half of the nodes are bad for one to three frames, then none for R frames or a
+    /// few more: within the premise, and each node that was bad works again.
+    Seldom,
 }
 
 pub const OUTSIDE: [Masks; 4] = [Masks::Any, Masks::Extreme, Masks::Stretches, Masks::Stretches];
@@ -240,6 +257,8 @@ struct Lines<'a> {
     masks: Masks,
     fill: Option<u64>,
     mask: u64,
+    /// How many frames more a mask of `Seldom` stays.
+    stays: usize,
     counts: Vec<usize>,
     sensors: Vec<u64>,
 }
@@ -249,7 +268,8 @@ impl<'a> Lines<'a> {
         let fill = r.pick(&[None, None, Some(0), Some(0), Some(255), Some(1)]);
         let sensors = (0..plan.sensors).map(|_| values.any(r)).collect();
         let counts = vec![plan.period; plan.nodes];
-        Lines { plan, values, masks, fill, mask: 0, counts, sensors }
+        let stays = if matches!(masks, Masks::Seldom) { r.below(4) } else { 0 };
+        Lines { plan, values, masks, fill, mask: 0, stays, counts, sensors }
     }
 
     fn any_mask(&self, r: &Random) -> u64 {
@@ -270,10 +290,25 @@ impl<'a> Lines<'a> {
             Masks::Extreme => r.pick(&[0, 0, all, 1 << r.below(self.plan.nodes)]),
             Masks::Stretches if r.one_in(4) => r.pick(&[0, 0, self.any_mask(r)]),
             Masks::Stretches => self.mask,
+            Masks::Seldom => self.seldom_mask(r),
         };
         if matches!(self.masks, Masks::Premise) {
             self.keep_premise();
         }
+    }
+
+    fn seldom_mask(&mut self, r: &Random) -> u64 {
+        if self.stays > 0 {
+            self.stays -= 1;
+            return self.mask;
+        }
+        if self.mask != 0 {
+            self.stays = self.plan.period - 1 + r.pick(&[0, 0, 1, r.below(4)]);
+            return 0;
+        }
+        self.stays = r.below(3);
+        let most = (self.plan.nodes - 1) / 2;
+        (0..r.between(most.min(1), most)).fold(0, |mask, _| mask | 1 << r.below(self.plan.nodes))
     }
 
     /// Drops the mask if half of the nodes or fewer would be working.

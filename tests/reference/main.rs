@@ -27,6 +27,8 @@ const USAGE: &str = "usage:
   reference listing FOLDER                        print the listing of FOLDER/plan.txt and run.txt
   reference case SEED FOLDER                      write the case of a seed to FOLDER
   reference compare PROGRAM COUNT [FIRST_SEED]    compare PROGRAM with the reference
+  reference blocks-case SEED FOLDER               write the case of a seed to FOLDER
+  reference blocks PROGRAM COUNT [FIRST_SEED]     compare PROGRAM on runs longer than a block
   reference histories-listing FOLDER              print the histories of FOLDER/plan.txt
   reference histories-case SEED FOLDER            write the plan of a seed to FOLDER
   reference histories PROGRAM COUNT [FIRST_SEED]  compare PROGRAM with the reference's histories
@@ -67,16 +69,20 @@ fn command(arguments: &[&str]) -> io::Result<bool> {
         ["listing", folder] => print(listing::listing(&plan(folder), &file(folder, "run.txt"))),
         ["histories-listing", folder] => print(histories::text(&plan(folder))),
         ["check-listing", folder] => print(check::text(&plan(folder))),
-        [what @ ("case" | "histories-case" | "check-case"), seed, folder] => match number(seed) {
-            Some(seed) if what == "case" => write_case(cases::case(seed), folder),
-            Some(seed) => write_case(cases::histories_case(seed), folder),
-            None => usage(),
-        },
-        [what @ ("compare" | "histories" | "check"), program, count, ref first @ ..]
+        [what @ ("case" | "blocks-case" | "histories-case" | "check-case"), seed, folder] => {
+            match number(seed) {
+                Some(seed) if what == "case" => write_case(cases::case(seed), folder),
+                Some(seed) if what == "blocks-case" => write_case(cases::blocks_case(seed), folder),
+                Some(seed) => write_case(cases::histories_case(seed), folder),
+                None => usage(),
+            }
+        }
+        [what @ ("compare" | "blocks" | "histories" | "check"), program, count, ref first @ ..]
             if first.len() < 2 =>
         {
             let kind = match what {
                 "compare" => &compare::RUN,
+                "blocks" => &compare::BLOCKS,
                 "histories" => &compare::HISTORIES,
                 _ => &compare::CHECK,
             };
