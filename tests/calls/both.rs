@@ -27,7 +27,7 @@ pub type Record = Vec<u64>;
 pub const NUMBERS: usize = 12;
 
 /// What was seen.
-#[derive(Clone, Default)]
+#[derive(Clone, Default, PartialEq)]
 pub struct Totals {
     pub calls: u64,
     /// By call, then by the answer's number.
@@ -45,6 +45,9 @@ pub struct Totals {
     pub periods: [u64; 3],
     /// Runs listed to their end, to a refused line, and ended by a refused plan.
     pub listings: [u64; 3],
+    /// Frames of lists past the 40th; lists with R above 60 and with R = 513; nodes that were bad
+    /// and work again, with R above 60 and with R = 513.
+    pub long: [u64; 5],
 }
 
 /// The report of a difference.

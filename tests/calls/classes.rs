@@ -7,7 +7,7 @@ use super::calls::{
 use super::damage;
 use super::draw::{accepted, damaged, plan_rows, stray, wrong_length, Draw};
 use super::frame::{message_length, plane};
-use super::generate::{never, plan_text, quick, run, Masks, OUTSIDE};
+use super::generate::{never, plan_text, quick, run, slowest, Masks, OUTSIDE};
 use super::listing::{listing, run_line_length};
 use super::plan::{number, Plan, Row};
 use super::random::{strange, Random, Values};
@@ -45,13 +45,46 @@ pub fn case(seed: u64, both: &mut Both) -> Compared<()> {
         "damaged words" => words(both, values, &rows),
         "one node" => node(both, values, &rows),
         "any system" => system(both, values, &rows),
-        "list inside the premise" => list(both, values, &rows, Masks::Premise),
-        "list outside the premise" => list(both, values, &rows, r.pick(&OUTSIDE)),
+        "list inside the premise" => list(both, values, &rows, Masks::Premise, usual_length),
+        "list outside the premise" => list(both, values, &rows, r.pick(&OUTSIDE), usual_length),
         "boards" => boards(both, values, &rows),
         "histories" => histories(both, values, &rows),
         "any run" => any_run(both, values, &rows),
         _ => whole_listing(both, values, &rows),
     }
+}
+
+pub const LONG_CLASSES: [&str; 5] = [
+    "long list, R = 513",
+    "long list, R above 60",
+    "long list, R above 60",
+    "long list",
+    "long list outside the premise",
+];
+
+pub fn long_class_of(seed: u64) -> &'static str {
+    LONG_CLASSES[(seed % LONG_CLASSES.len() as u64) as usize]
+}
+
+/// A list of more than 40 frames, long enough for nodes to recover.
+pub fn long_case(seed: u64, both: &mut Both) -> Compared<()> {
+    let r = both.r;
+    let values = &Values::new(r);
+    let class = long_class_of(seed);
+    let rows = match class {
+        "long list, R = 513" => slowest(r, values, true),
+        "long list, R above 60" => slowest(r, values, false),
+        _ => plan_rows(r, values),
+    };
+    let masks = match class {
+        "long list outside the premise" => r.pick(&OUTSIDE),
+        _ => Masks::Seldom,
+    };
+    let length = |r: &Random, plan: &Plan| match class {
+        "long list outside the premise" => r.between(41, 300),
+        _ => (2 * plan.period + r.between(10, 30)).max(r.between(41, 300)),
+    };
+    list(both, values, &rows, masks, length)
 }
 
 // ---- plan texts
@@ -260,9 +293,18 @@ fn histories(both: &mut Both, values: &Values, rows: &[Row]) -> Compared<()> {
 
 // ---- lists of frames from power-on
 
+fn usual_length(_: &Random, plan: &Plan) -> usize {
+    (3 * plan.period).clamp(12, 40)
+}
+
 /// Masks and sensors of a run, from its text.
-fn frames(r: &Random, plan: &Plan, values: &Values, masks: Masks) -> Vec<(u64, Vec<u64>)> {
-    let count = (3 * plan.period).clamp(12, 40);
+fn frames(
+    r: &Random,
+    plan: &Plan,
+    values: &Values,
+    masks: Masks,
+    count: usize,
+) -> Vec<(u64, Vec<u64>)> {
     let text = run(r, plan, values, masks, count);
     let column = |bytes: &[u8]| number(bytes).expect("a whole run line");
     let line = |line: &[u8]| {
@@ -283,6 +325,14 @@ impl Premise<'_> {
     /// Whether a node was good in the last `count` frames, or in all if there are fewer.
     fn good_for(&self, node: usize, count: usize) -> bool {
         self.masks.iter().rev().take(count).all(|mask| mask >> node & 1 == 0)
+    }
+
+    /// How many nodes were bad just before the last R frames: they work in the next one.
+    fn again(&self) -> u64 {
+        let period = self.plan.period;
+        let before = self.masks.len().checked_sub(1 + period).map_or(0, |at| self.masks[at]);
+        let again = |&node: &usize| before >> node & 1 == 1 && self.good_for(node, period);
+        (0..self.plan.nodes).filter(again).count() as u64
     }
 
     fn recovered(&self) -> impl Iterator<Item = usize> + '_ {
@@ -313,16 +363,23 @@ fn memory_in(system: &[u64], node: usize) -> &[u64] {
     &system[MEMORY_WORDS * node..MEMORY_WORDS * (node + 1)]
 }
 
-fn list(both: &mut Both, values: &Values, rows: &[Row], masks: Masks) -> Compared<()> {
+fn list(
+    both: &mut Both,
+    values: &Values,
+    rows: &[Row],
+    masks: Masks,
+    length: impl Fn(&Random, &Plan) -> usize,
+) -> Compared<()> {
     let r = both.r;
     let (plan, words) = accepted(rows);
+    let long = [plan.period > 60, plan.period == 513].map(u64::from);
     let right = Draw { r, values, plan: &plan, wrong: 0 };
     let mut single = right.memory();
     let mut system = right.system(&single);
     both.node_power_on(&words, &mut single)?;
     both.system_power_on(&words, &mut system)?;
     let mut premise = Premise { plan: &plan, masks: Vec::new(), held: true };
-    for (mask, sensors) in frames(r, &plan, values, masks) {
+    for (mask, sensors) in frames(r, &plan, values, masks, length(r, &plan)) {
         let faults = right.faults(&system, &sensors);
         while r.one_in(4) {
             refused_frame(both, &right, &words, &system, &sensors, mask, &faults)?;
@@ -344,8 +401,13 @@ fn list(both: &mut Both, values: &Values, rows: &[Row], masks: Masks) -> Compare
         if premise.held {
             demand_3(both, &premise, &system, &single, &place, &expected)?;
             premise.agree(*agreement)?;
+            both.totals.long[3] += premise.again() * long[0];
+            both.totals.long[4] += premise.again() * long[1];
         }
     }
+    both.totals.long[0] += premise.masks.len().saturating_sub(40) as u64;
+    both.totals.long[1] += long[0];
+    both.totals.long[2] += long[1];
     Ok(())
 }
 
@@ -537,7 +599,8 @@ fn boards(both: &mut Both, values: &Values, rows: &[Row]) -> Compared<()> {
         both.node_power_on(&words, memory)?;
     }
     let masks = r.pick(&[Masks::Premise, Masks::Stretches, Masks::Any]);
-    for (mask, sensors) in frames(r, &plan, values, masks).into_iter().take(8) {
+    let list = frames(r, &plan, values, masks, usual_length(r, &plan));
+    for (mask, sensors) in list.into_iter().take(8) {
         let faults = draw.faults(&system, &sensors);
         let (mut place, mut agreement) = (draw.setpoints(), draw.number());
         both.frame(&words, &mut system, &sensors, mask, &faults, &mut place, &mut agreement)?;

@@ -30,15 +30,19 @@ mod random;
 
 use std::process::ExitCode;
 use std::sync::atomic::{AtomicU64, Ordering};
+use std::sync::Barrier;
 
-use both::{Both, Totals, CALLS, NUMBERS};
-use classes::{case, class_of};
+use both::{Both, Compared, Totals, CALLS, NUMBERS};
+use classes::{case, class_of, long_case, long_class_of};
 use random::Random;
 
 const USAGE: &str = "usage:
   calls COUNT [FIRST_SEED]          compare cases until at least COUNT calls were made
   calls --bare COUNT [FIRST_SEED]   the same with buffers that have no guards, for valgrind
   calls --seed SEED                 compare one case
+  calls --long COUNT [FIRST_SEED]   compare COUNT long lists of frames
+  calls --long-seed SEED            compare one of them
+  calls --threads COUNT             compare the same cases in two threads at once, COUNT calls each
   calls --broken TESTS LIBRARY WORK build broken references, copied from the folder TESTS to WORK,
                                     with libragbasalt.a in the folder LIBRARY, and compare";
 
@@ -49,23 +53,33 @@ const ENOUGH: u64 = 20_000;
 /// A difference, with its seed first.
 type Difference = (u64, String);
 
+/// What is compared: the calls of a seed, and the name of their class.
+#[derive(Clone, Copy)]
+struct Kind {
+    case: fn(u64, &mut Both) -> Compared<()>,
+    class_of: fn(u64) -> &'static str,
+}
+
+const USUAL: Kind = Kind { case, class_of };
+const LONG: Kind = Kind { case: long_case, class_of: long_class_of };
+
 /// Names the case if it ends by a panic.
-struct Running(u64);
+struct Running(u64, &'static str);
 
 impl Drop for Running {
     fn drop(&mut self) {
         if std::thread::panicking() {
-            println!("seed {}, case \"{}\": a panic", self.0, class_of(self.0));
+            println!("seed {}, case \"{}\": a panic", self.0, self.1);
         }
     }
 }
 
-fn compare(seed: u64, totals: &mut Totals, bare: bool) -> Result<(), Difference> {
-    let _running = Running(seed);
+fn compare(kind: Kind, seed: u64, totals: &mut Totals, bare: bool) -> Result<(), Difference> {
+    let class = (kind.class_of)(seed);
+    let _running = Running(seed, class);
     let r = &Random::new(seed);
-    let done = case(seed, &mut Both { r, totals, bare });
+    let done = (kind.case)(seed, &mut Both { r, totals, bare });
     done.map_err(|report| {
-        let class = class_of(seed);
         (
             seed,
             format!("seed {seed}, case \"{class}\", call {}: a difference\n{report}", totals.calls),
@@ -79,7 +93,7 @@ fn work(first: u64, count: u64, bare: bool, least: &AtomicU64) -> Result<Totals,
     let mut totals = Totals::default();
     let mut seed = first;
     while totals.calls < count && seed < least.load(Ordering::Relaxed) {
-        if let Err(difference) = compare(seed, &mut totals, bare) {
+        if let Err(difference) = compare(USUAL, seed, &mut totals, bare) {
             least.fetch_min(seed, Ordering::Relaxed);
             return Err(difference);
         }
@@ -97,6 +111,7 @@ fn sum(all: &mut Totals, part: &Totals) {
     all.differing += part.differing;
     all.small.iter_mut().zip(part.small).for_each(|(all, part)| *all += part);
     all.listings.iter_mut().zip(part.listings).for_each(|(all, part)| *all += part);
+    all.long.iter_mut().zip(part.long).for_each(|(all, part)| *all += part);
     all.periods.iter_mut().zip(part.periods).for_each(|(all, part)| *all += part);
     for (all, part) in all.histories.iter_mut().flatten().zip(part.histories.iter().flatten()) {
         *all += part;
@@ -172,9 +187,72 @@ fn run(count: u64, first: u64, bare: bool) -> bool {
     true
 }
 
-fn one(seed: u64) -> bool {
+/// Long lists; each kind of them has to come up.
+fn long(count: u64, first: u64) -> bool {
+    let work = |number: u64| {
+        let mut totals = Totals::default();
+        let mut seeds = (first + number..first + count).step_by(WORKERS as usize);
+        seeds.try_for_each(|seed| compare(LONG, seed, &mut totals, false)).map(|_| totals)
+    };
+    let parts: Vec<_> = std::thread::scope(|scope| {
+        let workers: Vec<_> =
+            (0..WORKERS).map(|number| scope.spawn(move || work(number))).collect();
+        workers.into_iter().map(|worker| worker.join().expect("no panic")).collect()
+    });
+    if let Some((_, report)) = parts.iter().filter_map(|part| part.as_ref().err()).min() {
+        print!("{report}");
+        return false;
+    }
     let mut totals = Totals::default();
-    let compared = compare(seed, &mut totals, false);
+    parts.iter().flatten().for_each(|part| sum(&mut totals, part));
+    let [frames, above, most, recovered, recovered_most] = totals.long;
+    println!("long lists {count}: frames past the 40th {frames}; R above 60 {above}, 513 {most}");
+    println!(
+        "frames inside the premise {}, outside {}; nodes bad and recovered with R above 60 {}, 513 {}",
+        totals.inside, totals.outside, recovered, recovered_most
+    );
+    if totals.long.contains(&0) || totals.outside == 0 {
+        println!("something above never came up");
+        return false;
+    }
+    println!("calls: {} equal", totals.calls);
+    true
+}
+
+/// Two threads make the same calls at once, each on its own buffers, and compare each of them.
+fn together(count: u64) -> bool {
+    let start = &Barrier::new(WORKERS as usize);
+    let work = move || {
+        start.wait();
+        let mut totals = Totals::default();
+        for seed in 0.. {
+            compare(USUAL, seed, &mut totals, false)?;
+            if totals.calls >= count {
+                break;
+            }
+        }
+        Ok(totals)
+    };
+    let parts: Vec<Result<Totals, Difference>> = std::thread::scope(|scope| {
+        let workers: Vec<_> = (0..WORKERS).map(|_| scope.spawn(work)).collect();
+        workers.into_iter().map(|worker| worker.join().expect("no panic")).collect()
+    });
+    if let Some((_, report)) = parts.iter().find_map(|part| part.as_ref().err()) {
+        print!("in one of {WORKERS} threads: {report}");
+        return false;
+    }
+    let parts: Vec<_> = parts.into_iter().flatten().collect();
+    if parts.windows(2).any(|two| two[0] != two[1]) {
+        println!("two threads with the same cases made other calls");
+        return false;
+    }
+    println!("calls: {} equal in each of {WORKERS} threads at once", parts[0].calls);
+    true
+}
+
+fn one(kind: Kind, seed: u64) -> bool {
+    let mut totals = Totals::default();
+    let compared = compare(kind, seed, &mut totals, false);
     match &compared {
         Ok(()) => println!("calls: {} equal", totals.calls),
         Err((_, report)) => print!("{report}"),
@@ -187,11 +265,12 @@ fn usage() -> bool {
     false
 }
 
-fn numbers(arguments: &[&str], bare: bool) -> bool {
+/// A count and, if it is given, the first seed.
+fn numbers(arguments: &[&str], run: impl Fn(u64, u64) -> bool) -> bool {
     let numbers: Option<Vec<u64>> = arguments.iter().map(|text| text.parse().ok()).collect();
     match numbers.as_deref() {
-        Some([count]) => run(*count, 0, bare),
-        Some([count, first]) => run(*count, *first, bare),
+        Some([count]) => run(*count, 0),
+        Some([count, first]) => run(*count, *first),
         _ => usage(),
     }
 }
@@ -201,9 +280,12 @@ pub fn main() -> ExitCode {
     let arguments: Vec<&str> = arguments.iter().map(String::as_str).collect();
     let equal = match *arguments {
         ["--broken", tests, library, work] => broken::run(tests, library, work),
-        ["--seed", seed] => seed.parse().map_or_else(|_| usage(), one),
-        ["--bare", ref given @ ..] => numbers(given, true),
-        ref given => numbers(given, false),
+        ["--seed", seed] => seed.parse().map_or_else(|_| usage(), |seed| one(USUAL, seed)),
+        ["--long-seed", seed] => seed.parse().map_or_else(|_| usage(), |seed| one(LONG, seed)),
+        ["--long", ref given @ ..] => numbers(given, long),
+        ["--threads", count] => count.parse().map_or_else(|_| usage(), together),
+        ["--bare", ref given @ ..] => numbers(given, |count, first| run(count, first, true)),
+        ref given => numbers(given, |count, first| run(count, first, false)),
     };
     match equal {
         true => ExitCode::SUCCESS,
