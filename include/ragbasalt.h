@@ -16,6 +16,8 @@
  *
  * 2. A frame, in six sentences
  *
+ * n, F, C, S and A are the plan's numbers of nodes, frames, cells, sensors and actuators (section 4).
+ *
  * Memory:    a node's memory is a counter and C cells; at power-on the counter is 0 and each cell has its initial pattern.
  * Compute:   with g = counter mod F the tasks of frame g run in their order, each seeing what those before it wrote; then
  *            the counter becomes (g + 1) mod F.
@@ -66,7 +68,7 @@
  * A plan is a cycle of F frames: which tasks run in each of them, and which cells are voted in it. A node's counter says
  * which frame of the cycle comes next.
  *
- *   name         letter   limits    (in struct ragbasalt_plan)
+ *   field        letter   limits    in struct ragbasalt_plan
  *   nodes        n        1 to 7
  *   frames       F        1 to 16   the frames of the plan's cycle
  *   cells        C        1 to 32   initial[c] is cell c's pattern at power-on
@@ -223,10 +225,10 @@
  *   buffers may run at once.
  * - The calling thread's floating-point environment is the one that a thread has unless something changes it: rounding to
  *   nearest, subnormal results not flushed to zero, subnormal operands not read as zero, every exception masked (MXCSR
- *   0x1F80, its six flags left aside). Each thread has its own. It is changed by fesetround, feenableexcept and
- *   _mm_setcsr, and in a whole program by linking with -Ofast or -ffast-math (gcc, clang), which sets both flushes before
- *   main. In another environment setpoints differ in their last bit or are 0, plans against the rules are accepted, and with an
- *   exception unmasked a call can end by a signal. ragbasalt_arithmetic_holds, the last function below, tells.
+ *   0x1F80, its six flags left aside). Each thread has its own. Calls such as fesetround, feenableexcept and _mm_setcsr
+ *   change it, and linking with -Ofast or -ffast-math (gcc, clang) sets both flushes before main. In another environment
+ *   setpoints can differ in their last bit or be 0, a plan against the rules can be accepted, and with an exception
+ *   unmasked a call can end by a signal. ragbasalt_arithmetic_holds, the last function below, tells.
  * - There is stack. Measured on this archive, a call takes below its caller at most 25,300 bytes on a plan or on one node,
  *   29,900 on a system, 27,100 for ragbasalt_listing_start and 61,900 for ragbasalt_listing_next. Allow for some more.
  *
