@@ -16,6 +16,7 @@ ghost use Rattle.run_line.specs.Line.{runLineSize, printedSize, refusalSize};
 ghost use Rattle.run_line.specs.Listing.{mostRunLines};
 ghost use Rattle.lines.specs.Code.{blockLines, linesAnswer};
 ghost use Rattle.lines.specs.Blocks.{LaidBlock};
+ghost use Rattle.run.specs.Followed.{Followed};
 use answer::Answer;
 use libc::STDOUT_FILENO;
 use lines::Printed;
@@ -99,9 +100,10 @@ fn block(
     }
 }
 
-// The lines of the file, block by block.
-fn follow(file: i32, start: Run)
+// The lines of the file, block by block, each from the run that the one before left. Gives the run after the last.
+fn follow(file: i32, start: Run) -> Run
     requires { ⌜ (accepted (start .plan) ≡ true) × (start .period ≡ periodOf (start .plan)) × (start .frame ≤ mostRunLines) ⌝ }
+    ensures { λ r. ⌜ Followed start r ⌝ }
 {
     let size = lines::step::BLOCK * run_line::step::line_size(start.plan.sensors);
     let bytes = faults::step::size(plan::sizes_with(start.plan, start.period));
@@ -120,7 +122,7 @@ fn follow(file: i32, start: Run)
             &mut out[0..OUTPUT],
         );
         if !read.more {
-            return;
+            return read.run;
         }
         run = read.run;
     }

@@ -1,7 +1,7 @@
--- `run::follow` ends: each block that is read whole brings the run nearer to its last line.
+-- `run::follow` meets its contract: each block begins with the run that the one before left. It ends: each block that is read whole brings the run nearer to its last line.
 use mathlib.Core.Path.{_≡_, refl, sym, ap, _∙_, subst}
 use mathlib.Core.Bool.{Bool, true, _&&_}
-use mathlib.Core.List.{List, _++_}
+use mathlib.Core.List.{List, [], _++_}
 use Prim.Native.Nat.{ℕ, _-_, _*_, _≤_, _<_}
 use lib.Dec.{eqb}
 use native.Mathlib.Omega.{arith}
@@ -24,16 +24,17 @@ use Rattle.faults.proofs.LayoutLaws.{small-of-shape, most-enough, held-zero}
 use Rattle.run_line.specs.Listing.{mostRunLines}
 use Rattle.lines.specs.declared.Run.{Run}
 use Rattle.lines.specs.Code.{linesAnswer}
-use Rattle.lines.specs.Blocks.{LaidBlock}
+use Rattle.lines.specs.Blocks.{blockListing, LaidBlock}
 use Rattle.lines.proofs.StepLaws.{front-length}
 use Rattle.lines.proofs.RunLaws.{lines-further, lines-in-time}
+use Rattle.run.specs.Followed.{Passed, nothing, further, Reached, Followed}
 use Rattle.run.proofs.follow.Statement.{statement}
 use Rattle.run.proofs.follow.Tie as tie
 
 abbrev Inv-loop : tie.InvT-loop
 Inv-loop file size bytes run₀ input₀ out₀ held₀ faults₀ run input out held faults =
     (accepted (run .plan) ≡ true) × (run .period ≡ period (run .plan)) × (run .frame ≤ mostRunLines) × (run .plan ≡ run₀ .plan) × (length input ≡ 42112) × (length out ≡ 23181)
-    × (length held ≡ mostNodes) × (length faults ≡ 14896) × Held (sizesOf (run .plan)) held (take (bytes - 0) faults)
+    × (length held ≡ mostNodes) × (length faults ≡ 14896) × Held (sizesOf (run .plan)) held (take (bytes - 0) faults) × Reached run₀ run
 
 abbrev μ-loop : tie.MeasureT-loop
 μ-loop file size bytes run₀ input₀ out₀ held₀ faults₀ run input out held faults = mostRunLines - run .frame
@@ -52,7 +53,7 @@ size-requires c κs =
 loop-holds : tie.Need-loop-holds Inv-loop μ-loop
 loop-holds c =
     let z : ℕ = 0 in
-    (c .before .before .before .pre .0, c .before .before .before .pre .1, c .before .before .before .pre .2, refl, length-replicate 42112 z, length-replicate 23181 z, length-replicate mostNodes z, length-replicate 14896 z, held-zero (sizesOf (c .before .before .before .args .start .plan)) 14896 0 (c .size .result - 0))
+    (c .before .before .before .pre .0, c .before .before .before .pre .1, c .before .before .before .pre .2, refl, length-replicate 42112 z, length-replicate 23181 z, length-replicate mostNodes z, length-replicate 14896 z, held-zero (sizesOf (c .before .before .before .args .start .plan)) 14896 0 (c .size .result - 0), record { read = []; printed = []; passed = nothing })
 
 part-input-end : tie.Need-part-input-end Inv-loop μ-loop
 part-input-end c = omega (arith, c .before .before .before .line-size .ensures, shape-of-accepted (c .before .before .before .before .args .start .plan) (c .before .before .before .before .pre .0) .sensors-le, c .loop .inv .4)
@@ -84,7 +85,10 @@ block-requires c κs =
     (l .inv .0, l .inv .1, l .inv .2, omega (arith, n, size .ensures, same), l .inv .6, f, l .inv .8, omega (arith, m, p .actuators-le))
 
 returns : tie.Need-returns Inv-loop μ-loop
-returns c = tt
+returns c =
+    let b = c .before .before .before .before .before .before .block in
+    let l = c .before .before .before .before .before .before .before .before .before .before .before .loop in
+    record { before = l .run; reached = l .inv .9; last = take (b .result .got) (b .last .1 .1 .0); left-is = b .ensures .2 .run-is }
 
 -- the run that a block leaves
 module _ (r : Run) (input out : List ℕ) (got count : ℕ) (left : Run) (h : LaidBlock r (take got input) out count left) where
@@ -99,13 +103,19 @@ module _ (r : Run) (input out : List ℕ) (got count : ℕ) (left : Run) (h : La
   left-in-time : r .frame ≤ mostRunLines → left .frame ≤ mostRunLines
   left-in-time f = rw (h .run-is) (lines-in-time r (take got input) f)
 
+  left-done : {more : Bool} → more ≡ (eqb (numberOf (linesAnswer r (take got input) .answer)) 0 && eqb got (length input)) → more ≡ true → numberOf (linesAnswer r (take got input) .answer) ≡ 0
+  left-done m t = eqb-true _ 0 (and-left _ (eqb got (length input)) (sym m ∙ t))
+
+  left-reached : {start : Run} → numberOf (linesAnswer r (take got input) .answer) ≡ 0 → Reached start r → Reached start left
+  left-reached {start} e before =
+      subst (Reached start) (sym (h .run-is)) (record { read = before .read ++ take got input; printed = before .printed ++ blockListing r (take got input); passed = further (before .passed) (take got input) e })
+
   left-further : {more : Bool} → more ≡ (eqb (numberOf (linesAnswer r (take got input) .answer)) 0 && eqb got (length input)) → more ≡ true → 0 < length input → r .frame < left .frame
   left-further m t f =
       let b : (eqb (numberOf (linesAnswer r (take got input) .answer)) 0 && eqb got (length input)) ≡ true = sym m ∙ t in
-      let done : numberOf (linesAnswer r (take got input) .answer) ≡ 0 = eqb-true (numberOf (linesAnswer r (take got input) .answer)) 0 (and-left (eqb (numberOf (linesAnswer r (take got input) .answer)) 0) (eqb got (length input)) b) in
       let whole : got ≡ length input = eqb-true got (length input) (and-right (eqb (numberOf (linesAnswer r (take got input) .answer)) 0) (eqb got (length input)) b) in
       let some : 0 < length (take got input) = omega (arith, length-take-le got input (omega arith)) in
-      rw (h .run-is) (lines-further r (take got input) done some)
+      rw (h .run-is) (lines-further r (take got input) (left-done m t) some)
 
 loop-less : tie.Need-loop-less Inv-loop μ-loop
 loop-less c =
@@ -141,6 +151,7 @@ loop-again c =
       b .ensures .4,
       length-front (l .faults) (b .last .1 .1 .1 .1 .0) (k - 0) (b .ensures .5) ∙ l .inv .7,
       rw (back, plan) (b .ensures .6),
+      left-reached (l .run) (b .last .1 .1 .0) _ (b .result .got) _ _ (b .ensures .2) (left-done (l .run) (b .last .1 .1 .0) _ (b .result .got) _ _ (b .ensures .2) (b .ensures .3) (not-false _ (c .before .if1 .left))) (l .inv .9),
     )
 
 pub follow-spec : {M : Type 1} → statement M
