@@ -53,12 +53,15 @@ module _ {A : Type 0} where
   unfolding fill
   fill-kept f n l d e = rw (add-one n, e) (sym (rw (fill-out f n l n d (omega arith)) at (set-getD (fill f n l) n d)))
 
+  -- a list whose every place is stored is the list of what was stored
+  pub fill-is : (f : ℕ → A) (n : ℕ) (l v : List A) (d : A) → length l ≡ n → length v ≡ n → ((i : ℕ) → i < n → f i ≡ getD v i d) → fill f n l ≡ v
+  fill-is f n l v d e h g =
+      let long : length (fill f n l) ≡ n = fill-length f n l ∙ e in
+      ext-getD d (fill f n l) v (long ∙ sym h) (λ i k. fill-in f n l i d (omega arith) (omega arith) ∙ g i (omega arith))
+
   -- a list copied entry by entry
   pub fill-copied : (d : A) (v l : List A) (n : ℕ) → length v ≡ n → length l ≡ n → fill (λ i. getD v i d) n l ≡ v
-  fill-copied d v l n e f =
-      let long : length (fill (λ i. getD v i d) n l) ≡ n = fill-length (λ i. getD v i d) n l ∙ f in
-      ext-getD d (fill (λ i. getD v i d) n l) v (long ∙ sym e)
-      (λ i h. fill-in (λ i. getD v i d) n l i d (omega arith) (omega arith))
+  fill-copied d v l n e f = fill-is (λ i. getD v i d) n l v d f e (λ i h. refl)
 
   -- ---- a list holds a part from a place
 
@@ -145,6 +148,10 @@ module _ {A : Type 0} (d : A) where
       (λ t.
       let h : i < n = omega (arith, eqb-false i n t) in
       List·getD-append (from d s at n) (getD s (at + n) d ∷ []) d i (omega (arith, from-length d s at n)) ∙ from-at s at n i h)
+
+  -- a list stored with the entries of another from a place
+  pub fill-from : (s : List A) (at n : ℕ) (l : List A) → length l ≡ n → fill (λ i. getD s (at + i) d) n l ≡ from d s at n
+  fill-from s at n l e = fill-is (λ i. getD s (at + i) d) n l (from d s at n) d e (from-length d s at n) (λ i k. sym (from-at s at n i k))
 
   pub from-same : (s t : List A) (a b n : ℕ) → ((i : ℕ) → i < n → getD s (a + i) d ≡ getD t (b + i) d) → from d s a n ≡ from d t b n
   unfolding from

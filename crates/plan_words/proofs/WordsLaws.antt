@@ -13,7 +13,7 @@ use Rattle.array.specs.Index.{allBelow, allIn, joined, from}
 use Rattle.array.specs.Bit.{bit}
 use Rattle.array.proofs.TestLaws.{split, clash, and-left, and-right, and-both}
 use Rattle.array.proofs.IndexLaws.{allBelow-at, allBelow-all}
-use Rattle.array.proofs.PlacesLaws.{Holds, holds-left, holds-right, holds-within, holds-entry, joined-holds, fill-in, from-held, from-add}
+use Rattle.array.proofs.PlacesLaws.{fill-is, Holds, holds-left, holds-right, holds-within, holds-entry, joined-holds, fill-in, from-held, from-add}
 use Rattle.plan.specs.declared.Op.{Op}
 use Rattle.plan.specs.declared.Op.the-variants.{Take, Sum, Diff, Scale, Limit, Wind, Cam}
 use Rattle.plan.specs.declared.Plan.{Plan}
@@ -30,7 +30,7 @@ use Rattle.plan_grammar.proofs.MeantLaws.{zero-refused, task-line}
 use Rattle.plan_grammar.proofs.WrittenTextLaws.{TaskLine, taskLine-is, fits-small}
 use Rattle.plan_words.specs.Words.{initialAt, tasksAt, taskSize, votesAt, actuatorsAt, planSize, voteWord, planWords, taskIn, voteIn, planIn, taskWords, voteWords, wordsOk, planOfWords}
 use Rattle.plan_words.proofs.BitsLaws.{numberOfBits-small, numberOfBits-same, word-of-bits, bits-of-word}
-use Rattle.plan_words.proofs.WordsReadLaws.{fill-is, votesIn, vote-here, from-six, words-ok}
+use Rattle.plan_words.proofs.WordsReadLaws.{votesIn, vote-here, from-six, words-ok}
 use Rattle.plan_words.proofs.WordsPutLaws.{task-size, countsOf, tasksOf, votesOf, from-all, task-words-length, vote-words-length}
 
 -- ---- the words of an accepted plan

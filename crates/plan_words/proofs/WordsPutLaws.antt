@@ -10,7 +10,7 @@ use lib.Seq.{sets-eq}
 use borrow.Rule.Slice.PartMut.{putMid}
 use Rattle.array.specs.Index.{fill, joined, from}
 use Rattle.array.proofs.PlacedLaws.{placed-next, part-back}
-use Rattle.array.proofs.PlacesLaws.{joined-none, joined-more, joined-length, joined-holds, holds-entry, from-length, from-at, from-held}
+use Rattle.array.proofs.PlacesLaws.{fill-is, joined-none, joined-more, joined-length, joined-holds, holds-entry, from-length, from-at, from-held}
 use Rattle.column.proofs.BufferLaws.{Laid, laid-none}
 use Rattle.plan.specs.declared.Op.{Op}
 use Rattle.plan.specs.declared.Op.the-variants.{Take, Sum, Diff, Scale, Limit, Wind, Cam}
@@ -21,7 +21,6 @@ use Rattle.plan.specs.Tables.{taskAt, votePlace, votedIn}
 use Rattle.plan.proofs.AcceptedLaws.{Shape}
 use Rattle.plan_grammar.specs.Written.{opLine, taskLine}
 use Rattle.plan_words.specs.Words.{taskSize, planSize, numberOfBits, voteWord, planWords}
-use Rattle.plan_words.proofs.WordsReadLaws.{fill-is}
 
 pub stored-six : (l : List ℕ) (a b c d e f : ℕ) → length l ≡ 6 → set (set (set (set (set (set l 0 a) 1 b) 2 c) 3 d) 4 e) 5 f ≡ a ∷ b ∷ c ∷ d ∷ e ∷ f ∷ []
 stored-six l a b c d e f h =

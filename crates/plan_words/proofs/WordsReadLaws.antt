@@ -14,7 +14,7 @@ use Rattle.array.specs.Index.{allBelow, fill, from}
 use Rattle.array.specs.Bit.{bit}
 use Rattle.array.proofs.TestLaws.{split, and-both, and-false-left, and-false-right}
 use Rattle.array.proofs.IndexLaws.{allBelow-at, allBelow-fails}
-use Rattle.array.proofs.PlacesLaws.{fill-length, fill-in, fill-more, from-length, from-at}
+use Rattle.array.proofs.PlacesLaws.{fill-more, fill-from, from-length, from-at}
 use Rattle.array.proofs.PlacedLaws.{part-length}
 use Rattle.pattern.specs.Pattern.{valueOf}
 use Rattle.plan.specs.declared.Op.{Op}
@@ -36,17 +36,6 @@ use Rattle.plan_words.specs.Code.{taskRead}
 use Rattle.plan_words.proofs.BitsLaws.{bit-of-four}
 
 -- ---- entries stored one by one
-
--- a list whose every place is stored is the list of what was stored
-pub fill-is : {A : Type 0} (f : ℕ → A) (n : ℕ) (l v : List A) (d : A) → length l ≡ n → length v ≡ n → ((i : ℕ) → i < n → f i ≡ getD v i d) → fill f n l ≡ v
-fill-is f n l v d e h g =
-    let long : length (fill f n l) ≡ n = fill-length f n l ∙ e in
-    ext-getD d (fill f n l) v (long ∙ sym h) (λ i k. fill-in f n l i d (omega arith) (omega arith) ∙ g i (omega arith))
-
--- the entries of a list from a place
-fill-from : (s : List ℕ) (at n : ℕ) (l : List ℕ) → length l ≡ n → fill (λ i. getD s (at + i) 0) n l ≡ from 0 s at n
-fill-from s at n l e =
-    fill-is (λ i. getD s (at + i) 0) n l (from 0 s at n) 0 e (from-length 0 s at n) (λ i k. sym (from-at 0 s at n i k))
 
 -- as a part
 part-from : (s : List ℕ) (at n : ℕ) → at + n ≤ length s → take n (drop at s) ≡ from 0 s at n
@@ -289,4 +278,4 @@ module _ (ws : List ℕ) where
       ≡ planOfWords ws
   unfolding planOfWords planIn
   plan-read e v t hi ht hv ha =
-      rw (words-ok e v t, hi, ht, hv, ha, part-from ws initialAt mostCells (omega (arith, e)), fill-from ws actuatorsAt mostActuators (replicate mostActuators 0) (length-replicate {A = ℕ} mostActuators 0))
+      rw (words-ok e v t, hi, ht, hv, ha, part-from ws initialAt mostCells (omega (arith, e)), fill-from 0 ws actuatorsAt mostActuators (replicate mostActuators 0) (length-replicate {A = ℕ} mostActuators 0))

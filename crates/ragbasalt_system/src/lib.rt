@@ -1,12 +1,10 @@
 // The calls on a whole system, for programs in C and Rust: declared in include/ragbasalt.h. A plan, a system and a memory are their words (`plan_words`, `system_words`), each one array
 // behind a pointer.
 ghost use mathlib.Core.Path.{_≡_};
-ghost use Rattle.plan.specs.Limits.{mostNodes};
-ghost use Rattle.system.specs.System.{systemPowerOnAnswer};
-ghost use Rattle.system.specs.FrameCall.{frameAnswer, framePlace};
 ghost use Rattle.system.specs.CountCalls.{workingAnswer, equalAnswer};
 ghost use Rattle.plan_words.specs.Words.{planOfWords};
-ghost use Rattle.system_words.specs.Words.{codeOf, memoryAt, systemOfWords, systemGiven};
+ghost use Rattle.system_words.specs.Words.{codeOf, memoryAt, systemOfWords};
+ghost use Rattle.ragbasalt_demand.specs.Calls.{startedBy, wordsStarted, framedBy, wordsFramed, placeFramed};
 use system::System;
 
 // All words are written: what lies past the plan's nodes and cells is zero.
@@ -15,7 +13,7 @@ pub extern "C" fn ragbasalt_system_power_on(
     plan: &[u64; plan_words::step::SIZE],
     system: &mut [u64; system_words::step::SYSTEM],
 ) -> u64
-    ensures { λ r. ⌜ (r ≡ codeOf (systemPowerOnAnswer (planOfWords (now (plan .entry))) .answer)) × (now (system .exit) ≡ systemGiven (systemPowerOnAnswer (planOfWords (now (plan .entry))) .answer) mostNodes (systemPowerOnAnswer (planOfWords (now (plan .entry))) .system) (now (system .entry))) ⌝ }
+    ensures { λ r. ⌜ (r ≡ codeOf (startedBy (now (plan .entry)) .answer)) × (now (system .exit) ≡ wordsStarted (now (plan .entry)) (now (system .entry))) ⌝ }
 {
     let p = plan_words::step::plan(plan);
     let made = System::power_on(p);
@@ -35,7 +33,7 @@ pub extern "C" fn ragbasalt_system_frame(
     setpoints: &mut [u64],
     agreement: &mut usize,
 ) -> u64
-    ensures { λ r. ⌜ (r ≡ codeOf (frameAnswer (planOfWords (now (plan .entry))) (systemOfWords (now (system .entry))) (now (sensors .entry)) mask (now (faults .entry)) (now (setpoints .entry)) .answer)) × (now (system .exit) ≡ systemGiven (frameAnswer (planOfWords (now (plan .entry))) (systemOfWords (now (system .entry))) (now (sensors .entry)) mask (now (faults .entry)) (now (setpoints .entry)) .answer) ((planOfWords (now (plan .entry))) .nodes) (frameAnswer (planOfWords (now (plan .entry))) (systemOfWords (now (system .entry))) (now (sensors .entry)) mask (now (faults .entry)) (now (setpoints .entry)) .system) (now (system .entry))) × (now (setpoints .exit) ≡ framePlace (planOfWords (now (plan .entry))) (systemOfWords (now (system .entry))) (now (sensors .entry)) mask (now (faults .entry)) (now (setpoints .entry))) × (now (agreement .exit) ≡ frameAnswer (planOfWords (now (plan .entry))) (systemOfWords (now (system .entry))) (now (sensors .entry)) mask (now (faults .entry)) (now (setpoints .entry)) .agreement) ⌝ }
+    ensures { λ r. ⌜ (r ≡ codeOf (framedBy (now (plan .entry)) (now (system .entry)) (now (sensors .entry)) mask (now (faults .entry)) (now (setpoints .entry)) .answer)) × (now (system .exit) ≡ wordsFramed (now (plan .entry)) (now (system .entry)) (now (sensors .entry)) mask (now (faults .entry)) (now (setpoints .entry))) × (now (setpoints .exit) ≡ placeFramed (now (plan .entry)) (now (system .entry)) (now (sensors .entry)) mask (now (faults .entry)) (now (setpoints .entry))) × (now (agreement .exit) ≡ framedBy (now (plan .entry)) (now (system .entry)) (now (sensors .entry)) mask (now (faults .entry)) (now (setpoints .entry)) .agreement) ⌝ }
 {
     let p = plan_words::step::plan(plan);
     let s = system_words::step::system(system);

@@ -1,3 +1,4 @@
 pub mod CodeLaws
 pub mod RecordLaws
 pub mod GivenLaws
+pub mod HeldLaws

@@ -1,20 +1,23 @@
 -- Laws of memories and records as words: what a loop has read or stored so far.
-use mathlib.Core.Path.{_≡_, refl, sym, ap, _∙_}
+use mathlib.Core.Path.{_≡_, refl, _∙_}
 use mathlib.Core.List.{List}
 use Prim.Native.Nat.{ℕ, zero, suc, _+_, _*_, _%_, _^_, _≤_, _<_, min}
 use native.Mathlib.Omega.{arith}
 use native.Mathlib.Numerals.{add-one}
 use lib.ListN.{length, getD, set, replicate, length-set, length-replicate}
-use lib.Seq.{ext-getD}
+use lib.Dec.{eqb}
+use lib.Seq.{getD-set-same, getD-set-other}
+use borrow.Author.Tests.{eqb-true, eqb-false}
 use Rattle.array.specs.Index.{fill, from}
-use Rattle.array.proofs.PlacesLaws.{fill-length, fill-in, from-length, from-at}
+use Rattle.array.proofs.TestLaws.{split}
+use Rattle.array.proofs.PlacesLaws.{fill-from}
 use Rattle.plan.specs.Limits.{mostNodes, mostCells}
 use Rattle.memory.specs.declared.Memory.{Memory}
 use Rattle.memory.specs.Node.{zeroMemory}
 use Rattle.system.specs.declared.System.{System}
 use Rattle.system.specs.System.{zeroSystem}
 use Rattle.system.specs.Frame.{memoryOf, goodOf}
-use Rattle.system_words.specs.Words.{memoryAt, storedFrom, withMemory, nodeAt, goodAt, goodIn, systemOfWords, withMemories, withSystem}
+use Rattle.system_words.specs.Words.{memoryCount, memoryAt, storedFrom, withMemory, nodeAt, goodAt, goodIn, systemOfWords, withMemories, withSystem}
 
 -- ---- stored word after word
 
@@ -32,6 +35,28 @@ module _ (f : ℕ → ℕ) (at : ℕ) (l : List ℕ) where
   stored-length zero = refl
   stored-length (suc k) = length-set (storedFrom f at k l) (at + k) (f k) ∙ stored-length k
 
+  -- the first word, then the others
+  pub stored-first : (n : ℕ) → storedFrom (λ k. f (suc k)) (at + 1) n (set l at (f 0)) ≡ storedFrom f at (suc n) l
+  unfolding storedFrom
+  stored-first zero = let e : at + 0 ≡ at = omega arith in rw e
+  stored-first (suc n) = let e : at + 1 + n ≡ at + suc n = omega arith in rw (stored-first n, e)
+
+  pub stored-in : (n k : ℕ) → k < n → at + n ≤ length l → getD (storedFrom f at n l) (at + k) 0 ≡ f k
+  unfolding storedFrom
+  stored-in zero k h r = absurd (omega arith)
+  stored-in (suc n) k h r =
+      split (eqb k n)
+      (λ t. rw (eqb-true k n t) (getD-set-same (storedFrom f at n l) (at + n) (f n) 0 (omega (arith, stored-length n))))
+      (λ t.
+      getD-set-other (storedFrom f at n l) (at + n) (at + k) (f n) 0 (λ e. eqb-false k n t (omega arith))
+      ∙ stored-in n k (omega (arith, eqb-false k n t)) (omega arith))
+
+  pub stored-out : (n i : ℕ) → ((k : ℕ) → k < n → i ≡ at + k → ⊥) → getD (storedFrom f at n l) i 0 ≡ getD l i 0
+  unfolding storedFrom
+  stored-out zero i h = refl
+  stored-out (suc n) i h =
+      getD-set-other (storedFrom f at n l) (at + n) i (f n) 0 (h n (omega arith)) ∙ stored-out n i (λ k b. h k (omega arith))
+
 -- ---- a memory
 
 pub memory-made :
@@ -41,10 +66,7 @@ pub memory-made :
     _≡_ {A = Memory} (record { counter = counter; cells = cells }) (memoryAt ws at)
 unfolding memoryAt
 memory-made ws at {counter} {cells} e f =
-    let long : length (fill (λ c. getD ws (at + 1 + c) 0) mostCells (replicate mostCells 0)) ≡ mostCells = fill-length _ mostCells (replicate mostCells 0) ∙ length-replicate {A = ℕ} mostCells 0 in
-    let same : cells ≡ from 0 ws (at + 1) mostCells =
-    f ∙ ext-getD 0 _ _ (long ∙ sym (from-length 0 ws (at + 1) mostCells))
-    (λ i h. fill-in _ mostCells (replicate mostCells 0) i 0 (omega (arith, long)) (omega (arith, long, length-replicate {A = ℕ} mostCells 0)) ∙ sym (from-at 0 ws (at + 1) mostCells i (omega (arith, long)))) in
+    let same : cells ≡ from 0 ws (at + 1) mostCells = f ∙ fill-from 0 ws (at + 1) mostCells (replicate mostCells 0) (length-replicate {A = ℕ} mostCells 0) in
     λ i. record { counter = e i; cells = same i }
 
 -- ---- a system
@@ -73,11 +95,7 @@ module _ (sys : System) (ws : List ℕ) where
   unfolding withMemories
   memories-more j e f h = rw (add-one j, ← e, ← f) h
 
-  memory-length : (m : Memory) (at : ℕ) (l : List ℕ) → length (withMemory m at l) ≡ length l
-  unfolding withMemory
-  memory-length m at l = stored-length _ (at + 1) _ mostCells ∙ length-set l at (m .counter)
-
   pub memories-length : (j : ℕ) → length (withMemories sys j ws) ≡ length ws
-  unfolding withMemories
+  unfolding withMemories withMemory
   memories-length zero = refl
-  memories-length (suc j) = memory-length (memoryOf sys j) (nodeAt j) (withMemories sys j ws) ∙ memories-length j
+  memories-length (suc j) = stored-length _ (nodeAt j) (withMemories sys j ws) memoryCount ∙ memories-length j

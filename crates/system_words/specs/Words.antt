@@ -1,6 +1,6 @@
 -- Answers, memories and system records as 64-bit words, for callers that hand over nothing else. This layout is ours; document 01 has none. Any words are some memory, and some record.
 use mathlib.Core.Bool.{cond}
-use mathlib.Core.List.{List}
+use mathlib.Core.List.{List, _∷_}
 use Prim.Native.Nat.{ℕ, zero, suc, _+_, _*_, _%_, _^_, min}
 use lib.Dec.{eqb}
 use lib.ListN.{getD, set}
@@ -37,9 +37,12 @@ unfoldable pub storedFrom : (ℕ → ℕ) → ℕ → ℕ → List ℕ → List 
 storedFrom f at zero l = l
 storedFrom f at (suc k) l = set (storedFrom f at k l) (at + k) (f k)
 
+unfoldable pub memoryWords : Memory → List ℕ
+memoryWords m = m .counter ∷ m .cells
+
 -- words with those of a memory from a place on
 unfoldable pub withMemory : Memory → ℕ → List ℕ → List ℕ
-withMemory m at ws = storedFrom (λ c. getD (m .cells) c 0) (at + 1) mostCells (set ws at (m .counter))
+withMemory m at ws = storedFrom (λ k. getD (memoryWords m) k 0) at memoryCount ws
 
 -- a memory's words after a call that gives this answer and this memory
 unfoldable pub memoryGiven : Answer → Memory → List ℕ → List ℕ

@@ -5,8 +5,8 @@ use native.Mathlib.Omega.{arith}
 use lib.ListN.{length, getD}
 use borrow.Author.Needs.{needs}
 use Rattle.plan.specs.Limits.{mostCells}
-use Rattle.system_words.specs.Words.{storedFrom, withMemory}
-use Rattle.system_words.proofs.RecordLaws.{stored-none, stored-more, stored-length}
+use Rattle.system_words.specs.Words.{storedFrom, memoryWords, withMemory}
+use Rattle.system_words.proofs.RecordLaws.{stored-none, stored-more, stored-length, stored-first}
 use Rattle.system_words.proofs.step.put_memory.Statement.{statement}
 use Rattle.system_words.proofs.step.put_memory.Tie as tie
 
@@ -26,8 +26,10 @@ same-length : tie.Need-same-length Inv-loop μ-loop
 same-length c = ap length (c .before .loop .inv .1) ∙ stored-length _ _ _ (c .before .loop .c) ∙ c .before .before .before .before .put-word .kept .0
 
 returns : tie.Need-returns Inv-loop μ-loop
-unfolding withMemory
-returns c = let e : c .before .loop .c ≡ mostCells = omega arith in c .before .loop .inv .1 ∙ rw (e, c .before .before .before .before .put-word .ensures)
+unfolding memoryWords withMemory
+returns c =
+    let e : c .before .loop .c ≡ mostCells = omega arith in
+    c .before .loop .inv .1 ∙ rw (e, c .before .before .before .before .put-word .ensures) (stored-first _ _ _ mostCells)
 
 pub put-memory-spec : {M : Type 1} → statement M
 put-memory-spec =
