@@ -4,7 +4,7 @@ ghost use mathlib.Core.Path.{_≡_};
 ghost use Rattle.system.specs.CountCalls.{workingAnswer, equalAnswer};
 ghost use Rattle.plan_words.specs.Words.{planOfWords};
 ghost use Rattle.system_words.specs.Words.{codeOf, memoryAt, systemOfWords};
-ghost use Rattle.ragbasalt_demand.specs.Calls.{startedBy, wordsStarted, framedBy, wordsFramed, placeFramed};
+ghost use Rattle.words_demand.specs.Calls.{startedBy, wordsStarted, framedBy, wordsFramed, placeFramed};
 use system::System;
 
 // All words are written: what lies past the plan's nodes and cells is zero.

@@ -44,8 +44,8 @@ use Rattle.system.proofs.FaultLaws.{faultMemory-length}
 use Rattle.system.proofs.DemandLaws.{demand3}
 use Rattle.system_words.specs.Words.{codeOf, ifDone, memoryCount, memoryWords, nodeAt, goodAt, systemCount, systemOfWords, withSystem, systemGiven}
 use Rattle.system_words.proofs.HeldLaws.{Fits, Shaped, Held, held-read, stored-held, filled-shaped, filled-held, zero-shaped}
-use Rattle.ragbasalt_demand.specs.Calls.{wordsStarted}
-use Rattle.ragbasalt_demand.specs.Demand.{WordsCall, callOf, calls, wordsNext, codes, wordsPlaces, wordsFinally, codesOf, OneWords, WordsTolerated, Demand3OfWords}
+use Rattle.words_demand.specs.Calls.{wordsStarted}
+use Rattle.words_demand.specs.Demand.{WordsCall, callOf, calls, wordsNext, codes, wordsPlaces, wordsFinally, codesOf, OneWords, WordsTolerated, Demand3OfWords}
 
 -- ---- a frame leaves a record that words can hold
 

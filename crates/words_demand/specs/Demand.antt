@@ -14,7 +14,7 @@ use Rattle.plan_words.specs.Words.{planOfWords}
 use Rattle.memory.specs.Node.{poweredOn}
 use Rattle.system.specs.Demand.{Call, singlePlaces, singleFinally, callAnswers, masks, goodIn, Premise}
 use Rattle.system_words.specs.Words.{codeOf, memoryCount, memoryWords, nodeAt, systemCount}
-use Rattle.ragbasalt_demand.specs.Calls.{wordsStarted, framedBy, wordsFramed, placeFramed}
+use Rattle.words_demand.specs.Calls.{wordsStarted, framedBy, wordsFramed, placeFramed}
 
 -- a call of `ragbasalt_system_frame`, all but the system's words
 pub record WordsCall : Type 0 where
