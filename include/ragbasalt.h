@@ -14,7 +14,7 @@
  * There are calls on a plan (read, write, test), on one node (what a board calls in each frame), on a system of n nodes
  * under faults (to try out a plan), and on a run, which is a file of frames that is listed line by line.
  *
- * 2. A frame, in six sentences
+ * 2. A frame, in six steps
  *
  * n, F, C, S and A are the plan's numbers of nodes, frames, cells, sensors and actuators (section 4).
  *
@@ -25,27 +25,28 @@
  * Vote:      the counter that more than half of the n messages hold is taken over, unless it is F or above; then, with
  *            g' = (counter + F - 1) mod F, each cell voted in g' takes the value that more than half of the messages hold;
  *            where there is no such value, the node's own stays.
- * Setpoints: setpoint i is the pattern in the cell of actuator i.
+ * Setpoints: setpoint i is, after the vote, the pattern in the cell of actuator i.
  * Plane:     for each actuator it hands on the value that most nodes put out; of tied values, that whose lowest-numbered
  *            holder is lowest.
  *
  * A node hears itself: its own message is one of the n. More than half is of all n: 2 of 3, 3 of 4, and both of 2. Votes
  * and plane compare bits: +0 and -0 differ, and a NaN equals a NaN of the same bits. Any memory may be computed on, since a
- * fault may leave anything: a counter of F or above works as counter mod F in Compute and is sent as it is.
+ * fault may leave anything: a counter of F or above works as counter mod F in Compute. Frames are also counted from
+ * power-on: in frame t a node whose memory is right runs the plan's frame g = t mod F.
  *
  * More words, said of a system from power-on:
  *
  *   good, bad    of a node in a frame. A good node does the above. What a bad one holds after the frame, sends to each node
  *                and puts out is whatever the caller says (section 8).
- *   good count   of a node: R at power-on (R is in section 5); 0 after a frame in which it was bad, 1 more after one in
- *                which it was good, up to R.
+ *   good count   of a node: R at the system's power-on (R is in section 5); 0 after a frame in which it was bad, 1 more
+ *                after one in which it was good, up to R. A board that restarts alone was bad.
  *   works        a node works in a frame if it is good in it and its good count was R before it.
  *   single       the single controller: one memory that computes in each frame and never fails or votes. Its setpoints
  *                are what the press should get.
  *   equal        a node whose memory after a frame is the single controller's: counter and C cells, bit for bit.
  *   agreement    of a node's vote: how many of the messages hold the value that more than half of them hold, 0 where there
- *                is none; the least over the counter and the cells voted in g'. Of a frame: the least over its good nodes,
- *                0 if all are bad.
+ *                is none; the least over the counter (also one that is not taken over) and the cells voted in g'. Of a
+ *                frame: the least over its good nodes, 0 if all are bad.
  *
  * While in every frame from power-on on more than half of the nodes work, the plane hands on the single controller's
  * setpoints, and every node whose good count is R is equal, whatever bad nodes do. With 1 or 2 nodes that is only while no
@@ -104,8 +105,9 @@
  * - what is past the counts is 0: initial from C, votes from F, actuator_cells from A; and each task from task_count on
  *   is 10 0 0 0 0 0.
  *
- * A struct that keeps all of them is a plan; every other one is refused with 7. To learn which rule is broken, write the
- * lines of section 6 by a program of your own and read them with ragbasalt_plan_read: it names the rule and the line.
+ * A struct that keeps all of them is a plan; every other one is refused with 7. To learn why, write the lines of section 6
+ * by a program of your own and read them with ragbasalt_plan_read: it answers with a number of section 9 and the line. If
+ * the text is accepted, the struct read from it and yours differ past the counts.
  *
  * 5. The recovery period R
  *
@@ -121,7 +123,7 @@
  *
  * Lines of 57 bytes: six numbers in columns of width 4, 4, 4, 4, 20, 20, then a line feed (byte 10). A number is unsigned
  * and decimal, at most 2^64 - 1, right-justified with blanks (byte 32) before it; no sign, no zeros before it, and 0 is `0`.
- * In C: printf("%4u%4u%4u%4u%20" PRIu64 "%20" PRIu64 "\n", ..), each number having room in its column.
+ * In C "%4" PRIu64 four times, "%20" PRIu64 twice and "\n", each number having room in its column.
  *
  *   1st        2nd        3rd       4th      5th       6th
  *   0          n          F         C        S         A         the header
@@ -155,34 +157,38 @@
  * equal after it (4), A setpoints that the plane hands on (20 each), the agreement (4), a line feed. A refusal's line has
  * 13: its number (4) and the line that it is about (8), a line feed. It ends a listing.
  *
- * To list `file`, `length` bytes, under the plan text `text`, line by line:
+ * To list `file`, a const uint8_t * to `length` bytes, under the plan text `text`, line by line:
  *
+ *   ragbasalt_plan plan;
+ *   ragbasalt_run run;
  *   uint8_t line[RAGBASALT_MAX_LINE_BYTES];
  *   size_t at = 0, count;
  *   ragbasalt_answer answer = ragbasalt_listing_start(text, text_length, &plan, &run);
  *   while (answer == RAGBASALT_DONE) {
  *       answer = ragbasalt_listing_next(&plan, &run, file + at, length - at, line, sizeof line, &count);
  *       if (count == 0)
- *           break;                           (the end of the file, or a refusal)
+ *           break;                           // the end of the file, or a refusal
  *       fwrite(line, 1, count, stdout);
- *       at += 9 + 20 * (size_t)plan.sensors; (a line that was run had all its bytes)
+ *       at += 9 + 20 * (size_t)plan.sensors; // a line that was run had all its bytes
  *   }
  *   if (ragbasalt_listing_refusal(answer, line, sizeof line, &count) == RAGBASALT_DONE)
- *       fwrite(line, 1, count, stdout);      (no byte where nothing was refused)
+ *       fwrite(line, 1, count, stdout);      // no byte where nothing was refused
  *
  * 8. Messages, mailboxes, fault bytes
  *
  * Numbers in them are big-endian. With m = 2 + 8 * C:
  *
  *   message       m bytes: the counter (2), cells 0 to C - 1 (8 each), 0 where a cell is not voted
- *   mailbox       n * m bytes: the n messages that a node got, node 0's first, its own among them; one that did not come
- *                 is m zero bytes
+ *   mailbox       n * m bytes: the n messages that a node got, node 0's first, its own among them; one that did not come,
+ *                 or came damaged, is m zero bytes
  *   fault bytes   n * p bytes, p = (n + 1) * m + 8 * A: for each node j, from 0 on, p bytes at j * p:
  *                   its memory after the frame, as a message with all its cells     m bytes at j * p
  *                   its message to node i, for i from 0 to n - 1                    m bytes at j * p + (1 + i) * m
  *                   its setpoint k, for k from 0 to A - 1                           8 bytes at j * p + (n + 1) * m + 8 * k
  *
  * Only the bytes of bad nodes count, and of their messages only those to good nodes. Good nodes send one message to all.
+ * Zero bytes are a message like any other, of counter 0 and +0 in every cell: where more than half of a mailbox is missing,
+ * zeros are voted in and the agreement does not show it. A board that misses so many counts itself bad.
  *
  * 9. Answers
  *
@@ -209,7 +215,7 @@
  * A text is refused with 1 first, then by its first bad line, and in one line with 2, 3, 4, 5 in this order; last come
  * missing lines (4), then 6. Other calls try 7, 9, 11, 8 and 10 in this order; each call below names those that it can give.
  *
- * Refused, every word and byte that was lent stays as it was, but for the one number that a call gives (count, period,
+ * Refused, every word and byte behind the pointers stays as it was, but for the one number that a call gives (count, period,
  * agreement), which is then 0. Not refused, a call on a memory, a system or a run writes the words of the plan's n nodes and
  * C cells; all words past them stay. Power-on writes all words, zeros past the plan's.
  *
@@ -218,11 +224,12 @@
  *
  * 10. What a caller must keep to
  *
- * - A pointer is valid for its whole length, which is counted in elements, is aligned for its type, and is not null where
- *   the length is not 0; a pointer to a struct or to one number is valid and not null.
- * - The buffers of one call do not overlap each other.
- * - No other thread reads or writes a buffer while a call has it. The archive has no state of its own, so calls on different
- *   buffers may run at once.
+ * - A pointer is valid for its whole length, which is counted in elements (S sensors, not their bytes), is aligned for its
+ *   type, and is not null where the length is not 0; a pointer to a struct or to one number is valid and not null.
+ * - A buffer that a call writes overlaps no other buffer of the call.
+ * - While a call runs no other thread writes a buffer that it has, or reads one that it writes. Buffers that are only read, as
+ *   one plan for all threads, may be shared. The archive has no state of its own, so calls on different buffers may run at
+ *   once.
  * - The calling thread's floating-point environment is the one that a thread has unless something changes it: rounding to
  *   nearest, subnormal results not flushed to zero, subnormal operands not read as zero, every exception masked (MXCSR
  *   0x1F80, its six flags left aside). Each thread has its own. Calls such as fesetround, feenableexcept and _mm_setcsr
@@ -235,8 +242,13 @@
  * Everything else is answered: with these kept no content of a buffer, no length, no mask and no number makes a call trap or
  * run for ever.
  *
- * The archive is for the System V calling convention. It needs memcpy and memset, allocates nothing, and uses the red zone:
- * a kernel that calls it is built to spare that.
+ * The archive is for every x86-64 processor and the System V calling convention. It needs memcpy and memset and allocates
+ * nothing. It uses the red zone, the 128 bytes below the stack pointer: a handler that interrupts a call on its own stack
+ * leaves them alone, and saves the SSE registers and MXCSR.
+ *
+ * Time: every call makes the plan of its struct and tests it, R included. Measured, and not proved: ragbasalt_plan_check
+ * takes 11,000 to 15,000 instructions on plans with an R of at most some 15, and 101,000 on one with R = 512; a node's call
+ * up to 2,000 more, ragbasalt_system_frame 8,000 to 25,000 more.
  */
 #ifndef RAGBASALT_H
 #define RAGBASALT_H
@@ -248,7 +260,7 @@
 extern "C" {
 #endif
 
-/* It rises where a struct, a parameter, a layout or a meaning changes. A program built with the header of another version
+/* The version rises where a struct, a parameter, a layout or a meaning changes. A program built with the header of another version
  * does not link: it asks for a function that the archive does not have. */
 #define RAGBASALT_VERSION 3u
 uint64_t ragbasalt_version_3(void);
@@ -285,8 +297,8 @@ RAGBASALT_KEPT static uint64_t (*const ragbasalt_version_of_header)(void) = ragb
 #define RAGBASALT_MAX_LINE_BYTES 181u
 #define RAGBASALT_REFUSAL_LINE_BYTES 13u
 
-/* Fault histories are listed for plans of at most so many nodes, and for 1 to so many frames. The bytes are those of 5
- * nodes, R = 1 and 4 frames, 7,396 histories: counted, not proved, to be the most. */
+/* Fault histories are listed for plans of at most so many nodes, and for 1 to so many frames. The bytes are enough for all:
+ * those of 5 nodes, R = 1 and 4 frames, 7,396 histories, which were counted, not proved, to be the most. */
 #define RAGBASALT_MAX_HISTORIES_NODES 5u
 #define RAGBASALT_MAX_HISTORIES_FRAMES 4u
 #define RAGBASALT_MAX_HISTORIES_BYTES 29584u
@@ -295,7 +307,7 @@ RAGBASALT_KEPT static uint64_t (*const ragbasalt_version_of_header)(void) = ragb
 
 typedef uint64_t ragbasalt_answer;
 
-/* A compiler that can warns where an answer is not looked at. */
+/* Compilers that can do so warn where an answer is not looked at. */
 #if defined(__cplusplus)
 #define RAGBASALT_ANSWER [[nodiscard]] ragbasalt_answer
 #elif defined(__GNUC__)
@@ -371,8 +383,8 @@ typedef struct ragbasalt_system {
 typedef struct ragbasalt_run {
     ragbasalt_system system;
     ragbasalt_memory single; /* the single controller's */
-    uint64_t period;         /* R; what stands here counts for nothing, each call finds R anew */
-    uint64_t frame;          /* the number of the next frame: its line's number less 1 */
+    uint64_t period;         /* R, for the caller to read: no call reads it */
+    uint64_t frame;          /* the number of the next frame: its line's number less 1; from 100,000 on the next line is refused with 10 as line 100,001 */
 } ragbasalt_run;
 
 #if defined(__cplusplus)
@@ -444,7 +456,7 @@ RAGBASALT_ANSWER ragbasalt_single_frame(const ragbasalt_plan *plan, ragbasalt_me
 RAGBASALT_ANSWER ragbasalt_system_power_on(const ragbasalt_plan *plan, ragbasalt_system *system);
 
 /* A frame of all nodes: writes the system after it, and in `setpoints` what the plane hands on. The nodes of `mask` are bad,
- * and `faults`, ragbasalt_faults_size bytes, has what they hold, send and put out (section 8). `sensors`: S patterns,
+ * and `faults`, ragbasalt_faults_size bytes also where no node is bad, has what they hold, send and put out (section 8). `sensors`: S patterns,
  * `setpoints`: A. Gives the frame's agreement in `agreement`. 7, 9, 8. */
 RAGBASALT_ANSWER ragbasalt_system_frame(const ragbasalt_plan *plan, ragbasalt_system *system, const uint64_t *sensors, size_t sensors_length, uint64_t mask,
                                         const uint8_t *faults, size_t faults_length, uint64_t *setpoints, size_t setpoints_length, size_t *agreement);
@@ -468,7 +480,7 @@ RAGBASALT_ANSWER ragbasalt_listing_next(const ragbasalt_plan *plan, ragbasalt_ru
 
 /* Writes the line that a listing ends with where a call gave this answer, at the front of `line`, and gives its bytes in
  * `count`: 13, or 0 for RAGBASALT_DONE and for a number that no call gives. The line's number is the answer's for 2, 4, 5
- * and 10, 1 for 3 and 0 for the others. 8 where `line` has fewer than 13 bytes. */
+ * and 10, 1 for 3 and 0 for the others. 8 where `line` has fewer than 13 bytes, for RAGBASALT_DONE too. */
 RAGBASALT_ANSWER ragbasalt_listing_refusal(ragbasalt_answer answer, uint8_t *line, size_t line_length, size_t *count);
 
 /* ---- the thread's arithmetic (section 10) */
