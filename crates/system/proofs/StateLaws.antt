@@ -2,6 +2,7 @@
 use mathlib.Core.Path.{_≡_, sym, ap, _∙_}
 use mathlib.Core.Bool.{Bool, true, not}
 use mathlib.Core.List.{List, [], _∷_, _++_}
+use mathlib.Core.Option.{Option, Option·getD}
 use Prim.Native.Nat.{ℕ, zero, suc, _+_, _*_, _%_, _≤_, _<_, min}
 use native.Mathlib.Omega.{arith}
 use native.Mathlib.Nat.{add-zero, zero-mod, mod-add-mod, mod-eq-of-lt, mod-lt}
@@ -189,7 +190,7 @@ module _
     unfolding placeAfter singlePlace
     place-after place =
         fill-same _ (setpoint p (computed p sensors s)) (p .actuators) place
-        (λ a l. rw (plane-single p accept sys s sensors mask faults (st .single) patterns working a))
+        (λ a l. ap (λ (o : Option ℕ). Option·getD o 0) (plane-single p accept sys s sensors mask faults (st .single) patterns working a))
 
 -- ---- a plan with the same recovery
 
