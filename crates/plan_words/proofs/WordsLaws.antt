@@ -1,12 +1,11 @@
 -- The words of a plan: an accepted plan is read back from its words, and words that mean an accepted plan are its words. So no others are accepted.
 use mathlib.Core.Path.{_≡_, refl, sym, ap, subst, _∙_}
-use mathlib.Core.Bool.{true, false}
+use mathlib.Core.Bool.{true, false, _&&_}
 use mathlib.Core.List.{List, [], _∷_, _++_, append-assoc, append-nil}
-use Prim.Native.Nat.{ℕ, zero, suc, _+_, _*_, _^_, _≤_, _<_}
+use Prim.Native.Nat.{ℕ, zero, suc, _+_, _*_, _^_, _<_}
 use native.Mathlib.Omega.{arith}
 use native.Mathlib.Nat.{mul-zero, mul-suc}
-use lib.Dec.{eqb, ltb, lit<}
-use lib.Ieee.{binary64, fits}
+use lib.Dec.{eqb, ltb}
 use lib.ListN.{length, getD, replicate, length-append, length-replicate}
 use borrow.Author.Tests.{ltb-true, ltb-false, lt-ltb, eqb-true}
 use Rattle.array.specs.Index.{allBelow, allIn, joined, from}
@@ -14,20 +13,18 @@ use Rattle.array.specs.Bit.{bit}
 use Rattle.array.proofs.TestLaws.{split, clash, and-left, and-right, and-both}
 use Rattle.array.proofs.IndexLaws.{allBelow-at, allBelow-all}
 use Rattle.array.proofs.PlacesLaws.{fill-is, Holds, holds-left, holds-right, holds-within, holds-entry, joined-holds, fill-in, from-held, from-add}
-use Rattle.plan.specs.declared.Op.{Op}
-use Rattle.plan.specs.declared.Op.the-variants.{Take, Sum, Diff, Scale, Limit, Wind, Cam}
 use Rattle.plan.specs.declared.Plan.{Plan}
-use Rattle.plan.specs.Limits.{mostFrames, mostCells, mostSensors, mostTasks, mostActuators}
+use Rattle.plan.specs.Limits.{mostFrames, mostCells, mostTasks, mostActuators}
 use Rattle.plan.specs.Known.{reads}
 use Rattle.plan.specs.Tables.{unusedTask, taskAt, votePlace, voteFrame, voteCell, votedIn}
-use Rattle.plan.specs.Accepted.{constantsOk, opOk, taskOk, opStorable, accepted}
+use Rattle.plan.specs.Accepted.{constantsOk, opOk, taskOk, accepted}
 use Rattle.plan.proofs.AcceptedLaws.{Shape, op-always, shape-of-accepted}
 use Rattle.plan_grammar.specs.Line.{kindOf, isTask}
 use Rattle.plan_grammar.specs.Meant.{taskOf}
 use Rattle.plan_grammar.specs.Refused.{taskZeros}
-use Rattle.plan_grammar.specs.Written.{opLine, taskLine}
+use Rattle.plan_grammar.specs.Written.{taskLine}
 use Rattle.plan_grammar.proofs.MeantLaws.{zero-refused, task-line}
-use Rattle.plan_grammar.proofs.WrittenTextLaws.{TaskLine, taskLine-is, fits-small}
+use Rattle.plan_grammar.proofs.WrittenTextLaws.{TaskLine, taskLine-is}
 use Rattle.plan_words.specs.Words.{initialAt, tasksAt, taskSize, votesAt, actuatorsAt, planSize, voteWord, planWords, taskIn, voteIn, planIn, taskWords, voteWords, wordsOk, planOfWords}
 use Rattle.plan_words.proofs.BitsLaws.{numberOfBits-small, numberOfBits-same, word-of-bits, bits-of-word}
 use Rattle.plan_words.proofs.WordsReadLaws.{votesIn, vote-here, from-six, words-ok}
@@ -49,9 +46,6 @@ module _ (p : Plan) (h : Shape p) where
   initial-on : Holds (planWords p) 6 (p .initial ++ (tasksOf p ++ (votesOf p ++ p .«actuator_cell»)))
   unfolding planWords
   initial-on = record { front = countsOf p; back = []; whole = simp (append-assoc, append-nil); size = refl }
-
-  initial-held : Holds (planWords p) initialAt (p .initial)
-  initial-held = holds-left (p .initial) _ initial-on
 
   tasks-on : Holds (planWords p) tasksAt (tasksOf p ++ (votesOf p ++ p .«actuator_cell»))
   tasks-on = subst (λ (n : ℕ). Holds (planWords p) (6 + n) (tasksOf p ++ (votesOf p ++ p .«actuator_cell»))) (h .initial-length) (holds-right (p .initial) _ initial-on)
@@ -79,24 +73,17 @@ module _ (p : Plan) (h : Shape p) where
       (holds-entry 0
       (holds-within (holds-left (votesOf p) _ votes-on) (joined-holds (λ x. voteWord p x ∷ []) 1 (λ x. refl) mostFrames g l)))
 
-  -- they are a plan's words
-  vote-ok : (g : ℕ) → g < mostFrames → voteWords (planWords p) g ≡ true
-  unfolding voteWords voteWord
-  vote-ok g l = rw (vote-in g l) (lt-ltb _ (2 ^ mostCells) (numberOfBits-small (votedIn p g) mostCells))
-
   -- the line of a task means the task
   line : (k : ℕ) → TaskLine (taskLine (taskAt p k)) (taskAt p k)
   line k = taskLine-is (taskAt p k) (op-always p h k)
 
-  task-ok : (k : ℕ) → k < mostTasks → taskWords (planWords p) k ≡ true
-  unfolding taskWords
-  task-ok k l = rw (task-in k l) (and-both (line k .kind) (line k .zeros))
-
+  -- they are a plan's words
   words-pass : wordsOk (planWords p) ≡ true
+  unfolding taskWords voteWords voteWord
   words-pass =
       words-ok (planWords p) words-length
-      (allBelow-all (voteWords (planWords p)) mostFrames vote-ok)
-      (allBelow-all (taskWords (planWords p)) mostTasks task-ok)
+      (allBelow-all (voteWords (planWords p)) mostFrames (λ g l. rw (vote-in g l) (lt-ltb _ (2 ^ mostCells) (numberOfBits-small (votedIn p g) mostCells))))
+      (allBelow-all (taskWords (planWords p)) mostTasks (λ k l. rw (task-in k l) (and-both (line k .kind) (line k .zeros))))
 
   -- and mean the plan
   tasks-back : planIn (planWords p) .tasks ≡ p .tasks
@@ -105,115 +92,19 @@ module _ (p : Plan) (h : Shape p) where
       fill-is (λ k. taskOf (taskIn (planWords p) k)) mostTasks (replicate mostTasks unusedTask) (p .tasks) unusedTask (length-replicate mostTasks unusedTask) (h .tasks-length)
       (λ k l. ap taskOf (task-in k l) ∙ line k .task)
 
-  vote-back : (e : ℕ) → e < mostFrames * mostCells → votesIn (planWords p) e ≡ getD (p .voted) e false
-  unfolding voteWord votedIn
-  vote-back e l =
+  votes-back : planIn (planWords p) .voted ≡ p .voted
+  unfolding planIn voteWord votedIn
+  votes-back =
+      fill-is (votesIn (planWords p)) (mostFrames * mostCells) (replicate (mostFrames * mostCells) false) (p .voted) false (length-replicate (mostFrames * mostCells) false) (h .voted-length)
+      (λ e l.
       let z : votePlace (voteFrame e) (voteCell e) ≡ e = omega arith in
       ap (λ (w : ℕ). bit w (voteCell e)) (vote-in (voteFrame e) (omega arith))
       ∙ bits-of-word (votedIn p (voteFrame e)) mostCells (voteCell e) (omega arith)
-      ∙ ap (λ (n : ℕ). getD (p .voted) n false) z
-
-  votes-back : planIn (planWords p) .voted ≡ p .voted
-  unfolding planIn
-  votes-back =
-      fill-is (votesIn (planWords p)) (mostFrames * mostCells) (replicate (mostFrames * mostCells) false) (p .voted) false (length-replicate (mostFrames * mostCells) false) (h .voted-length)
-      vote-back
+      ∙ ap (λ (n : ℕ). getD (p .voted) n false) z)
 
   plan-back : planIn (planWords p) ≡ p
   unfolding planIn planWords
-  plan-back =
-      let i = from-held 0 mostCells (h .initial-length) initial-held in
-      let a = from-held 0 mostActuators (h .actuator-length) actuators-held in
-      λ x.
-      record {
-        nodes = p .nodes;
-        frames = p .frames;
-        cells = p .cells;
-        sensors = p .sensors;
-        actuators = p .actuators;
-        initial = i x;
-        «task_count» = p .«task_count»;
-        tasks = tasks-back x;
-        voted = votes-back x;
-        «actuator_cell» = a x;
-      }
-
--- ---- they are of 64 bits
-
-abbrev Small : List ℕ → Type 0
-Small [] = Unit
-Small (x ∷ l) = (x < 2 ^ 64) × Small l
-
-small-at : (l : List ℕ) (i : ℕ) → Small l → getD l i 0 < 2 ^ 64
-small-at [] i h = lit< tt
-small-at (x ∷ l) zero h = h .0
-small-at (x ∷ l) (suc i) h = small-at l i (h .1)
-
-small-all : (l : List ℕ) → ((i : ℕ) → getD l i 0 < 2 ^ 64) → Small l
-small-all [] h = tt
-small-all (x ∷ l) h = (h zero, small-all l (λ i. h (suc i)))
-
-small-append : (a b : List ℕ) → Small a → Small b → Small (a ++ b)
-small-append [] b h t = t
-small-append (x ∷ a) b h t = (h .0, small-append a b (h .1) t)
-
-small-joined : (f : ℕ → List ℕ) (n : ℕ) → ((k : ℕ) → k < n → Small (f k)) → Small (joined f n)
-unfolding joined
-small-joined f zero e = tt
-small-joined f (suc n) e = small-append (joined f n) (f n) (small-joined f n (λ k l. e k (omega arith))) (e n (omega arith))
-
--- a test that is one of several joined by `&&`
-ruleset joint = (and-left, and-right)
-
-op-small :
-    (cells sensors f g : ℕ) (o : Op) → cells ≤ mostCells → sensors ≤ mostSensors → f < mostFrames → g < mostCells → opOk cells sensors g o ≡ true → opStorable o ≡ true
-    → Small (opLine f g o)
-unfolding opLine opOk constantsOk reads allIn opStorable
-op-small cells sensors f g (Take s) c n lf lg e w = omega (arith, ltb-true s sensors e)
-op-small cells sensors f g (Sum a b) c n lf lg e w = omega (arith, ltb-true a cells (search joint), ltb-true b cells (search joint))
-op-small cells sensors f g (Diff a b) c n lf lg e w = omega (arith, ltb-true a cells (search joint), ltb-true b cells (search joint))
-op-small cells sensors f g (Scale a factor) c n lf lg e w = omega (arith, ltb-true a cells (search joint), fits-small factor w)
-op-small cells sensors f g (Limit a low high) c n lf lg e w =
-    omega (arith, ltb-true a cells (search joint), fits-small low (and-left _ _ w), fits-small high (and-right (fits binary64 low) _ w))
-op-small cells sensors f g (Wind a law) c n lf lg e w =
-    omega (arith, ltb-true a cells (search joint), fits-small (law .rate) (and-left _ _ w), fits-small (law .cap) (and-right (fits binary64 (law .rate)) _ w))
-op-small cells sensors f g (Cam a) c n lf lg e w = omega (arith, ltb-true a cells (search joint))
-
-unused-small : Small (taskLine unusedTask)
-unfolding taskLine opLine
-unused-small = omega arith
-
-module _ (p : Plan) (h : Shape p) where
-  task-small : (k : ℕ) → Small (taskLine (taskAt p k))
-  unfolding taskLine
-  task-small k =
-      split (ltb k (p .«task_count»))
-      (λ t.
-      let l = ltb-true _ _ t in
-      op-small (p .cells) (p .sensors) (taskAt p k .frame) (taskAt p k .target) (taskAt p k .op) (h .cells-le) (h .sensors-le) (omega (arith, h .frame k l, h .frames-le)) (omega (arith, h .target k l, h .cells-le)) (h .op k l) (op-always p h k))
-      (λ t. rw (h .unused k (ltb-false _ _ t)) unused-small)
-
-  actuator-small : (i : ℕ) → getD (p .«actuator_cell») i 0 < 2 ^ 64
-  actuator-small i =
-      split (ltb i (p .actuators))
-      (λ t. omega (arith, h .actuator i (ltb-true _ _ t), h .cells-le))
-      (λ t. rw (h .actuator-zero i (ltb-false _ _ t)) (lit< tt))
-
-  vote-small : (g : ℕ) → voteWord p g < 2 ^ 64
-  unfolding voteWord
-  vote-small g = omega (arith, numberOfBits-small (votedIn p g) mostCells)
-
-  all-small : Small (planWords p)
-  unfolding planWords
-  all-small =
-      let counts : Small (countsOf p) = omega (arith, h .nodes-high, h .frames-le, h .cells-le, h .sensors-le, h .actuators-le, h .tasks-le) in
-      let tasks : Small (tasksOf p) = small-joined (λ k. taskLine (taskAt p k)) mostTasks (λ k l. task-small k) in
-      let votes : Small (votesOf p) = small-joined (λ g. voteWord p g ∷ []) mostFrames (λ g l. (vote-small g, tt)) in
-      let table = p .«actuator_cell» in
-      small-append (countsOf p) (p .initial ++ (tasksOf p ++ (votesOf p ++ table))) counts
-      (small-append (p .initial) (tasksOf p ++ (votesOf p ++ table)) (small-all (p .initial) (h .initial-small))
-      (small-append (tasksOf p) (votesOf p ++ table) tasks
-      (small-append (votesOf p) table votes (small-all table actuator-small))))
+  plan-back = rw (from-held 0 mostCells (h .initial-length) (holds-left (p .initial) _ initial-on), tasks-back, votes-back, from-held 0 mostActuators (h .actuator-length) actuators-held)
 
 -- ---- words that mean an accepted plan
 
@@ -228,14 +119,6 @@ joined-from s at w f (suc n) e =
 from-one : (s : List ℕ) (at : ℕ) → from 0 s at 1 ≡ getD s at 0 ∷ []
 unfolding from
 from-one s at = let z : at + 0 ≡ at = omega arith in rw z
-
-vote-word : (ws : List ℕ) (g : ℕ) → voteIn ws g ≡ getD ws (votesAt + g) 0
-unfolding voteIn
-vote-word ws g = refl
-
-words-parts : (p : Plan) → planWords p ≡ countsOf p ++ (p .initial ++ (tasksOf p ++ (votesOf p ++ p .«actuator_cell»)))
-unfolding planWords
-words-parts p = refl
 
 all-parts :
     (ws : List ℕ) → from 0 ws 0 planSize ≡ from 0 ws 0 6 ++ (from 0 ws initialAt mostCells ++ (from 0 ws tasksAt (taskSize * mostTasks) ++ (from 0 ws votesAt mostFrames ++ from 0 ws actuatorsAt mostActuators)))
@@ -253,20 +136,14 @@ unfolding taskOk opOk constantsOk reads allIn
 unused-ok = refl
 
 module _ (ws : List ℕ) (small : (i : ℕ) → getD ws i 0 < 2 ^ 64) (pass : wordsOk ws ≡ true) (h : Shape (planIn ws)) where
+  -- the tests, one by one
   long : length ws ≡ planSize
   unfolding wordsOk
   long = eqb-true (length ws) planSize (and-left _ _ pass)
 
-  tasks-pass : (k : ℕ) → k < mostTasks → taskWords ws k ≡ true
+  tables-pass : (allBelow (taskWords ws) mostTasks && allBelow (voteWords ws) mostFrames) ≡ true
   unfolding wordsOk
-  tasks-pass k l = allBelow-at (taskWords ws) mostTasks k l (and-left _ _ (and-right (eqb (length ws) planSize) _ pass))
-
-  votes-pass : (g : ℕ) → g < mostFrames → voteIn ws g < 2 ^ mostCells
-  unfolding wordsOk voteWords
-  votes-pass g l =
-      ltb-true _ _
-      (allBelow-at (voteWords ws) mostFrames g l
-      (and-right (allBelow (taskWords ws) mostTasks) _ (and-right (eqb (length ws) planSize) _ pass)))
+  tables-pass = and-right (eqb (length ws) planSize) _ pass
 
   task-is : (k : ℕ) → k < mostTasks → taskAt (planIn ws) k ≡ taskOf (taskIn ws k)
   unfolding planIn
@@ -276,7 +153,7 @@ module _ (ws : List ℕ) (small : (i : ℕ) → getD ws i 0 < 2 ^ 64) (pass : wo
   task-again : (frames cells sensors k : ℕ) → k < mostTasks → taskOk frames cells sensors (taskAt (planIn ws) k) ≡ true → taskLine (taskAt (planIn ws) k) ≡ taskIn ws k
   unfolding taskIn taskWords
   task-again frames cells sensors k l o =
-      let t = tasks-pass k l in
+      let t = allBelow-at (taskWords ws) mostTasks k l (and-left _ _ tables-pass) in
       ap taskLine (task-is k l)
       ∙ task-words-back frames cells sensors ws (tasksAt + taskSize * k) small (and-left _ _ t) (and-right (isTask (kindOf (from 0 ws (tasksAt + taskSize * k) taskSize))) _ t) (rw (task-is k l) at o)
 
@@ -290,58 +167,35 @@ module _ (ws : List ℕ) (small : (i : ℕ) → getD ws i 0 < 2 ^ 64) (pass : wo
       task-again (q .frames) (q .cells) (q .sensors) k l (and-both (and-both (lt-ltb _ _ (h .frame k m)) (lt-ltb _ _ (h .target k m))) (h .op k m)))
       (λ t. task-again 1 1 1 k l (rw (h .unused k (ltb-false _ _ t)) unused-ok))
 
-  vote-is : (g c : ℕ) → g < mostFrames → c < mostCells → votedIn (planIn ws) g c ≡ bit (voteIn ws g) c
-  unfolding planIn votedIn
-  vote-is g c l m =
+  vote-same : (g : ℕ) → g < mostFrames → voteWord (planIn ws) g ≡ voteIn ws g
+  unfolding planIn votedIn voteWord voteWords
+  vote-same g l =
+      numberOfBits-same (votedIn (planIn ws) g) (bit (voteIn ws g)) mostCells
+      (λ c m.
       let n : votePlace g c < mostFrames * mostCells = omega arith in
       fill-in (votesIn ws) (mostFrames * mostCells) (replicate (mostFrames * mostCells) false) (votePlace g c) false n (rw (length-replicate (mostFrames * mostCells) false) n)
-      ∙ vote-here ws g c m
-
-  vote-same : (g : ℕ) → g < mostFrames → voteWord (planIn ws) g ≡ voteIn ws g
-  unfolding voteWord
-  vote-same g l =
-      numberOfBits-same (votedIn (planIn ws) g) (bit (voteIn ws g)) mostCells (λ c m. vote-is g c l m)
-      ∙ word-of-bits (voteIn ws g) mostCells (votes-pass g l)
+      ∙ vote-here ws g c m)
+      ∙ word-of-bits (voteIn ws g) mostCells (ltb-true _ _ (allBelow-at (voteWords ws) mostFrames g l (and-right (allBelow (taskWords ws) mostTasks) _ tables-pass)))
 
   tasks-same : tasksOf (planIn ws) ≡ from 0 ws tasksAt (taskSize * mostTasks)
   unfolding taskIn
   tasks-same = joined-from ws tasksAt taskSize (λ k. taskLine (taskAt (planIn ws) k)) mostTasks task-same
 
   votes-same : votesOf (planIn ws) ≡ from 0 ws votesAt mostFrames
-  votes-same = joined-from ws votesAt 1 (λ g. voteWord (planIn ws) g ∷ []) mostFrames one
-    where
-      one : (g : ℕ) → g < mostFrames → voteWord (planIn ws) g ∷ [] ≡ from 0 ws (votesAt + 1 * g) 1
-      one g l = let e : votesAt + 1 * g ≡ votesAt + g = omega arith in rw e (ap (λ (w : ℕ). w ∷ []) (vote-same g l ∙ vote-word ws g) ∙ sym (from-one ws (votesAt + g)))
-
-  initial-same : planIn ws .initial ≡ from 0 ws initialAt mostCells
-  unfolding planIn
-  initial-same = refl
-
-  actuators-same : planIn ws .«actuator_cell» ≡ from 0 ws actuatorsAt mostActuators
-  unfolding planIn
-  actuators-same = refl
-
-  counts-same : countsOf (planIn ws) ≡ from 0 ws 0 6
-  unfolding planIn
-  counts-same = sym (from-six ws 0)
+  unfolding voteIn
+  votes-same =
+      joined-from ws votesAt 1 (λ g. voteWord (planIn ws) g ∷ []) mostFrames
+      (λ g l. let e : votesAt + 1 * g ≡ votesAt + g = omega arith in rw e (ap (λ (w : ℕ). w ∷ []) (vote-same g l) ∙ sym (from-one ws (votesAt + g))))
 
   words-back : planWords (planIn ws) ≡ ws
+  unfolding planWords planIn
   words-back =
-      words-parts (planIn ws)
-      ∙ (λ i. counts-same i ++ (initial-same i ++ (tasks-same i ++ (votes-same i ++ actuators-same i))))
+      (λ i. sym (from-six ws 0) i ++ (from 0 ws initialAt mostCells ++ (tasks-same i ++ (votes-same i ++ from 0 ws actuatorsAt mostActuators))))
       ∙ sym (all-parts ws) ∙ from-all ws planSize long
 
 -- ---- the laws
 
--- an accepted plan has 446 words
-pub words-count : (p : Plan) → accepted p ≡ true → length (planWords p) ≡ planSize
-words-count p a = words-length p (shape-of-accepted p a)
-
--- of 64 bits
-pub words-small : (p : Plan) → accepted p ≡ true → (i : ℕ) → getD (planWords p) i 0 < 2 ^ 64
-words-small p a i = small-at (planWords p) i (all-small p (shape-of-accepted p a))
-
--- and is read back from them
+-- an accepted plan is read back from its words
 pub words-of-plan : (p : Plan) → accepted p ≡ true → planOfWords (planWords p) ≡ p
 unfolding planOfWords
 words-of-plan p a = let h = shape-of-accepted p a in rw (words-pass p h) (plan-back p h)

@@ -1,5 +1,5 @@
 -- Laws for putting a plan into words: six numbers stored, entries stored one by one, parts laid behind each other.
-use mathlib.Core.Path.{_≡_, refl, sym, _∙_}
+use mathlib.Core.Path.{_≡_, refl, sym, ap, _∙_}
 use mathlib.Core.Bool.{false}
 use mathlib.Core.List.{List, [], _∷_, _++_, append-assoc, append-nil}
 use Prim.Native.Nat.{ℕ, _+_, _-_, _*_, _≤_, _<_}
@@ -10,7 +10,7 @@ use lib.Seq.{sets-eq}
 use borrow.Rule.Slice.PartMut.{putMid}
 use Rattle.array.specs.Index.{fill, joined, from}
 use Rattle.array.proofs.PlacedLaws.{placed-next, part-back}
-use Rattle.array.proofs.PlacesLaws.{fill-is, joined-none, joined-more, joined-length, joined-holds, holds-entry, from-length, from-at, from-held}
+use Rattle.array.proofs.PlacesLaws.{fill-length, fill-is, joined-none, joined-more, joined-length, joined-holds, holds-entry, from-length, from-at, from-held}
 use Rattle.column.proofs.BufferLaws.{Laid, laid-none}
 use Rattle.plan.specs.declared.Op.{Op}
 use Rattle.plan.specs.declared.Op.the-variants.{Take, Sum, Diff, Scale, Limit, Wind, Cam}
@@ -25,6 +25,10 @@ use Rattle.plan_words.specs.Words.{taskSize, planSize, numberOfBits, vot
 pub stored-six : (l : List ℕ) (a b c d e f : ℕ) → length l ≡ 6 → set (set (set (set (set (set l 0 a) 1 b) 2 c) 3 d) 4 e) 5 f ≡ a ∷ b ∷ c ∷ d ∷ e ∷ f ∷ []
 stored-six l a b c d e f h =
     sets-eq (a ∷ b ∷ c ∷ d ∷ e ∷ f ∷ []) l 0 (omega arith) ∙ rw (drop-of-length-le l {i = 6} (omega arith))
+
+-- a loop that stores keeps the length
+pub filled-length : (f : ℕ → ℕ) (k : ℕ) (l : List ℕ) {now : List ℕ} → now ≡ fill f k l → length now ≡ length l
+filled-length f k l e = ap length e ∙ fill-length f k l
 
 -- ---- a list's own entries
 

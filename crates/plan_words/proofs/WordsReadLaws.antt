@@ -12,6 +12,7 @@ use lib.Seq.{ext-getD, getD-take, getD-drop}
 use borrow.Author.Tests.{eq-eqb, ne-eqb, not-true}
 use Rattle.array.specs.Index.{allBelow, fill, from}
 use Rattle.array.specs.Bit.{bit}
+use Rattle.array.proofs.BitLaws.{mask-fits}
 use Rattle.array.proofs.TestLaws.{split, and-both, and-false-left, and-false-right}
 use Rattle.array.proofs.IndexLaws.{allBelow-at, allBelow-fails}
 use Rattle.array.proofs.PlacesLaws.{fill-more, fill-from, from-length, from-at}
@@ -31,7 +32,7 @@ use Rattle.plan_line.specs.declared.Line.{Line}
 use Rattle.plan_line.specs.Code.{numbersIn}
 use Rattle.plan_words.specs.declared.step.TaskRead.{TaskRead}
 use Rattle.plan_words.specs.declared.step.TaskRead.the-variants.{Whole, Malformed}
-use Rattle.plan_words.specs.Words.{initialAt, actuatorsAt, planSize, taskIn, voteIn, planIn, taskWords, voteWords, wordsOk, planOfWords}
+use Rattle.plan_words.specs.Words.{initialAt, votesAt, actuatorsAt, planSize, taskIn, voteIn, planIn, taskWords, voteWords, wordsOk, planOfWords}
 use Rattle.plan_words.specs.Code.{taskRead}
 use Rattle.plan_words.proofs.BitsLaws.{bit-of-four}
 
@@ -43,17 +44,6 @@ part-from s at n l =
     let long : length (take n (drop at s)) ≡ n = part-length s at n n refl l in
     ext-getD 0 (take n (drop at s)) (from 0 s at n) (long ∙ sym (from-length 0 s at n))
     (λ i h. let k : i < n = omega arith in getD-take n (drop at s) i 0 k ∙ getD-drop at s i 0 ∙ sym (from-at 0 s at n i k))
-
--- four places more are stored
-fill-four :
-    {A : Type 0} (f : ℕ → A) (n : ℕ) (l now next : List A) (a b c d : A) → now ≡ fill f n l
-    → next ≡ set (set (set (set now n a) (n + 1) b) (n + 2) c) (n + 3) d → f n ≡ a → f (n + 1) ≡ b → f (n + 2) ≡ c → f (n + 3) ≡ d → next ≡ fill f (n + 4) l
-fill-four f n l now next a b c d e g ha hb hc hd =
-    let two : n + 1 + 1 ≡ n + 2 = omega arith in
-    let three : n + 2 + 1 ≡ n + 3 = omega arith in
-    let four : n + 3 + 1 ≡ n + 4 = omega arith in
-    g
-    ∙ rw (e, fill-more f n l a ha, fill-more f (n + 1) l b hb, two, fill-more f (n + 2) l c hc, three, fill-more f (n + 3) l d hd, four)
 
 -- ---- the table of the bits of 0 to 15
 
@@ -93,11 +83,15 @@ pub frame-more :
     → ((x : ℕ) → x < mostCells → q (votePlace frame x) ≡ bit word x)
     → next ≡ set (set (set (set now (first + c) (bit (word / 2 ^ c % 16) 0)) (first + c + 1) (bit (word / 2 ^ c % 16) 1)) (first + c + 2) (bit (word / 2 ^ c % 16) 2)) (first + c + 3) (bit (word / 2 ^ c % 16) 3)
     → next ≡ fill q (votePlace frame (c + 4)) l
-frame-more word frame c first q l {now} {next} f m e h s =
-    let at : first + c ≡ votePlace frame c = omega arith in
-    let end : votePlace frame c + 4 ≡ votePlace frame (c + 4) = omega arith in
-    let none : votePlace frame c + 0 ≡ votePlace frame c = omega arith in
-    rw (← end) (fill-four q (votePlace frame c) l now next _ _ _ _ e (rw (← at) s) (rw none at (vote 0 (omega arith))) (vote 1 (omega arith)) (vote 2 (omega arith)) (vote 3 (omega arith)))
+frame-more word frame c first q l f m e h s =
+    let n : ℕ = votePlace frame c in
+    let at : first + c ≡ n = omega arith in
+    let none : n + 0 ≡ n = omega arith in
+    let two : n + 1 + 1 ≡ n + 2 = omega arith in
+    let three : n + 2 + 1 ≡ n + 3 = omega arith in
+    let four : n + 3 + 1 ≡ votePlace frame (c + 4) = omega arith in
+    s
+    ∙ rw (at, e, fill-more q n l _ (rw none at (vote 0 (omega arith))), fill-more q (n + 1) l _ (vote 1 (omega arith)), two, fill-more q (n + 2) l _ (vote 2 (omega arith)), three, fill-more q (n + 3) l _ (vote 3 (omega arith)), four)
   where
     vote : (i : ℕ) → i < 4 → q (votePlace frame c + i) ≡ bit (word / 2 ^ c % 16) i
     vote i k =
@@ -115,11 +109,17 @@ vote-here ws g c l =
     let cell : votePlace g c % mostCells ≡ c = omega arith in
     rw (frame, cell)
 
+-- a word of votes has no bit past the cells
+pub vote-tested : (ws : List ℕ) (g : ℕ) → voteWords ws g ≡ eqb (getD ws (votesAt + g) 0 / 2 ^ mostCells) 0
+unfolding voteWords voteIn
+vote-tested ws g = sym (mask-fits (getD ws (votesAt + g) 0) mostCells)
+
 -- one frame more
 pub frames-more :
     (ws : List ℕ) (g : ℕ) (l : List Bool) {now next : List Bool}
-    → ((q : ℕ → Bool) (l : List Bool) → now ≡ fill q (votePlace g 0) l → ((c : ℕ) → c < mostCells → q (votePlace g c) ≡ bit (voteIn ws g) c) → next ≡ fill q (votePlace g mostCells) l)
+    → ((q : ℕ → Bool) (l : List Bool) → now ≡ fill q (votePlace g 0) l → ((c : ℕ) → c < mostCells → q (votePlace g c) ≡ bit (getD ws (votesAt + g) 0) c) → next ≡ fill q (votePlace g mostCells) l)
     → now ≡ fill (votesIn ws) (mostCells * g) l → next ≡ fill (votesIn ws) (mostCells * (g + 1)) l
+unfolding voteIn
 frames-more ws g l f e =
     let start : mostCells * g ≡ votePlace g 0 = omega arith in
     let end : votePlace g mostCells ≡ mostCells * (g + 1) = omega arith in
@@ -204,7 +204,6 @@ module _ (f c a b d : ℕ) where
   NoKind k = Bare k ((k ≡ camKind → ⊥) → (k ≡ takeKind → ⊥) → none ≡ taskSaid k)
 
   pub said-no-kind : (k : ℕ) → NoKind k
-  unfolding isTask taskZeros
   said-no-kind k =
       split (isTask k)
       (by-kind NoKind
@@ -263,18 +262,7 @@ module _ (ws : List ℕ) where
       → tasks ≡ fill (λ k. taskOf (taskIn ws k)) mostTasks (replicate mostTasks unusedTask)
       → voted ≡ fill (votesIn ws) (mostFrames * mostCells) (replicate (mostFrames * mostCells) false)
       → cells ≡ fill (λ i. getD ws (actuatorsAt + i) 0) mostActuators (replicate mostActuators 0)
-      → record {
-        nodes = getD ws 0 0;
-        frames = getD ws 1 0;
-        cells = getD ws 2 0;
-        sensors = getD ws 3 0;
-        actuators = getD ws 4 0;
-        initial = initial;
-        «task_count» = getD ws 5 0;
-        tasks = tasks;
-        voted = voted;
-        «actuator_cell» = cells;
-      }
+      → record { nodes = getD ws 0 0; frames = getD ws 1 0; cells = getD ws 2 0; sensors = getD ws 3 0; actuators = getD ws 4 0; initial = initial; «task_count» = getD ws 5 0; tasks = tasks; voted = voted; «actuator_cell» = cells }
       ≡ planOfWords ws
   unfolding planOfWords planIn
   plan-read e v t hi ht hv ha =

@@ -15,31 +15,12 @@ use Rattle.plan_words.proofs.step.actuators_in.Tie as tie
 abbrev Inv-loop : tie.InvT-loop
 Inv-loop words table₀ i₀ table i = (i ≤ mostActuators) × (table ≡ fill (λ x. getD words (actuatorsAt + x) 0) i table₀)
 
-abbrev μ-loop : tie.MeasureT-loop
-μ-loop words table₀ i₀ table i = mostActuators - i
-
-loop-holds : tie.Need-loop-holds Inv-loop μ-loop
-loop-holds c = (search needs, sym (fill-none _ _))
-
-loop-again : tie.Need-loop-again Inv-loop μ-loop
-loop-again c = (search needs, stored-next _ _ _ (c .before .before .loop .inv .1) refl)
-
-returns : tie.Need-returns Inv-loop μ-loop
-returns c = stored-all _ _ _ (c .before .loop .inv .1) (omega arith)
-
 pub actuators-in-spec : {M : Type 1} → statement M
 actuators-in-spec =
     tie.close
-    (tie.spec
-    Inv-loop
-    μ-loop
-    loop-holds
+    (tie.spec Inv-loop (λ words table₀ i₀ table i. mostActuators - i)
+    (λ c. (search needs, sym (fill-none _ _)))
+    (λ c. search needs) (λ c. search needs) (λ c. search needs) (λ c. search needs) (λ c. search needs) (λ c. search needs)
     (λ c. search needs)
-    (λ c. search needs)
-    (λ c. search needs)
-    (λ c. search needs)
-    (λ c. search needs)
-    (λ c. search needs)
-    (λ c. search needs)
-    loop-again
-    returns)
+    (λ c. (search needs, stored-next _ _ _ (c .before .before .loop .inv .1) refl))
+    (λ c. stored-all _ _ _ (c .before .loop .inv .1) (omega arith)))

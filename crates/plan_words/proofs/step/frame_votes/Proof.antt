@@ -1,5 +1,5 @@
 -- `plan_words::step::frame_votes` meets its contract: the first c votes of the frame are stored.
-use mathlib.Core.Path.{_≡_, ap, _∙_}
+use mathlib.Core.Path.{_≡_}
 use mathlib.Core.Bool.{Bool}
 use mathlib.Core.List.{List}
 use Prim.Native.Nat.{ℕ, _-_, _*_, _%_, _≤_, _<_}
@@ -16,36 +16,14 @@ use Rattle.plan_words.proofs.step.frame_votes.Tie as tie
 abbrev Inv-loop : tie.InvT-loop
 Inv-loop word table frame voted₀ first c₀ voted c = (c ≤ mostCells) × (c % 4 ≡ 0) × (first ≡ mostCells * frame) × ((q : ℕ → Bool) (l : List Bool) → voted₀ ≡ fill q (votePlace frame 0) l → ((x : ℕ) → x < mostCells → q (votePlace frame x) ≡ bit word x) → voted ≡ fill q (votePlace frame c) l)
 
-abbrev μ-loop : tie.MeasureT-loop
-μ-loop word table frame voted₀ first c₀ voted c = mostCells - c
-
-loop-holds : tie.Need-loop-holds Inv-loop μ-loop
-loop-holds c = (search needs, search needs, omega (arith, c .vote-place .ensures), λ q l e h. e)
-
-loop-again : tie.Need-loop-again Inv-loop μ-loop
-loop-again c =
-    let loop = c .before .before .before .loop in
-    let start = c .before .before .before .before .before in
-    (omega arith, omega arith, loop .inv .2, λ q l e h. frame-more (start .args .word) (start .args .frame) (loop .c) (c .before .before .before .before .vote-place .result) q l (loop .inv .2) (omega arith) (loop .inv .3 q l e h) h (c .four-votes .ensures))
-
-returns : tie.Need-returns Inv-loop μ-loop
-returns c =
-    let loop = c .before .loop in
-    let start = c .before .before .before in
-    λ q l e h. loop .inv .3 q l e h ∙ ap (λ (n : ℕ). fill q (votePlace (start .args .frame) n) l) (let z : loop .c ≡ mostCells = omega arith in z)
-
 pub frame-votes-spec : {M : Type 1} → statement M
 frame-votes-spec =
     tie.close
-    (tie.spec
-    Inv-loop
-    μ-loop
+    (tie.spec Inv-loop (λ word table frame voted₀ first c₀ voted c. mostCells - c)
     (λ c κs. search needs)
-    loop-holds
-    (λ c. search needs)
-    (λ c. search needs)
-    (λ c κs. search needs)
-    (λ c. search needs)
-    (λ c. search needs)
-    loop-again
-    returns)
+    (λ c. (search needs, search needs, omega (arith, c .vote-place .ensures), λ q l e h. e))
+    (λ c. search needs) (λ c. search needs) (λ c κs. search needs) (λ c. search needs) (λ c. search needs)
+    (λ c.
+    let loop = c .before .before .before .loop in
+    (omega arith, omega arith, loop .inv .2, λ q l e h. frame-more _ _ (loop .c) _ q l (loop .inv .2) (omega arith) (loop .inv .3 q l e h) h (c .four-votes .ensures)))
+    (λ c q l e h. let z : c .before .loop .c ≡ mostCells = omega arith in rw z at (c .before .loop .inv .3 q l e h)))

@@ -22,64 +22,44 @@ Inv-loop words initial voted actuator-cell tasks₀ k₀ tasks k = (k ≤ mostTa
 abbrev μ-loop : tie.MeasureT-loop
 μ-loop words initial voted actuator-cell tasks₀ k₀ tasks k = mostTasks - k
 
-returns : tie.Need-returns Inv-loop μ-loop
-returns c = other-length (c .before .before .before .args .words .now) (c .zero-plan .ensures) (c .before .if1 .taken)
-
-returns-2 : tie.Need-returns-2 Inv-loop μ-loop
-returns-2 c = other-votes (c .before .before .before .before .before .args .words .now) (c .zero-plan2 .ensures) (refused-test (c .before .before .votes-ok .ensures) (c .before .if2 .taken))
-
-loop-holds : tie.Need-loop-holds Inv-loop μ-loop
-loop-holds c = (search needs, allBelow-none _, sym (fill-none _ _))
-
 returns-3 : tie.Need-returns-3 Inv-loop μ-loop
 returns-3 c =
-    let words = c .before .before .before .before .before .before .before .before .before .before .before .before .before .before .before .before .before .before .before .args .words .now in
-    other-task words (c .zero-plan3 .ensures) (c .before .before .before .before .before .before .loop .k) (c .before .before .before .before .before .loop-test .taken) (task-malformed words (c .before .before .before .before .before .before .loop .k) (c .before .before .before .before .task .result) (c .before .before .before .task-of .result) (c .before .before .before .before .task .ensures) (c .before .before .before .task-of .ensures) (c .before .enum-told .given .1))
+    let told = c .before .before .before in
+    let read = told .before in
+    let words = read .before .before .before .before .before .before .before .before .before .before .before .before .before .before .before .args .words .now in
+    other-task words (c .zero-plan3 .ensures) (read .before .before .loop .k) (read .before .loop-test .taken)
+    (task-malformed words _ (read .task .result) (told .task-of .result) (read .task .ensures) (told .task-of .ensures) (c .before .enum-told .given .1))
 
 loop-again : tie.Need-loop-again Inv-loop μ-loop
 loop-again c =
-    let read = task-whole (c .before .before .before .before .before .before .before .before .before .before .before .before .before .before .before .before .before .before .before .args .words .now) (c .before .before .before .before .before .before .loop .k) (c .before .before .before .before .task .result) (c .before .before .before .task-of .result) (c .before .before .before .before .task .ensures) (c .before .before .before .task-of .ensures) (c .before .t .given .1) in
-    (search needs, allBelow-more _ (c .before .before .before .before .before .before .loop .k) (c .before .before .before .before .before .before .loop .inv .1) (read .0), stored-next _ _ _ (c .before .before .before .before .before .before .loop .inv .2) (read .1))
+    let told = c .before .before .before in
+    let read = told .before in
+    let loop = read .before .before .loop in
+    let t = task-whole _ _ (read .task .result) (told .task-of .result) (read .task .ensures) (told .task-of .ensures) (c .before .t .given .1) in
+    (search needs, allBelow-more _ (loop .k) (loop .inv .1) (t .0), stored-next _ _ _ (loop .inv .2) (t .1))
 
 returns-4 : tie.Need-returns-4 Inv-loop μ-loop
 returns-4 c =
-    plan-read (c .before .before .before .before .before .before .before .before .before .before .before .before .before .before .before .before .before .before .before .before .args .words .now) (c .before .before .before .before .before .before .before .before .before .before .before .before .before .before .before .before .before .before .if1 .left) (passed-test (c .before .before .before .before .before .before .before .before .before .before .before .before .before .before .before .before .before .votes-ok .ensures) (c .before .before .before .before .before .before .before .before .before .before .before .before .before .before .before .before .if2 .left)) (all-passed _ (c .before .before .before .before .before .before .before .loop .inv .1) (omega arith))
-    (c .before .before .before .before .before .before .before .before .before .before .before .before .before .copy .ensures) (stored-all _ _ _ (c .before .before .before .before .before .before .before .loop .inv .2) (omega arith)) (c .before .before .before .before .before .before .before .before .before .before .votes-in .ensures) (c .before .before .before .before .before .before .before .before .actuators-in .ensures)
+    let test = c .before .before .before .before .before .before in
+    let ended = test .before in
+    let e : ended .loop .k ≡ mostTasks = omega (arith, test .loop-test .left, ended .loop .inv .0) in
+    let actuators = ended .before in
+    let voted = actuators .before .before in
+    let initial = voted .before .before .before in
+    let tested = initial .before .before .before in
+    plan-read _ (tested .before .before .if1 .left) (passed-test (tested .before .votes-ok .ensures) (tested .if2 .left)) (all-passed _ (ended .loop .inv .1) e)
+    (initial .copy .ensures) (stored-all _ _ _ (ended .loop .inv .2) e) (voted .votes-in .ensures) (actuators .actuators-in .ensures)
 
 pub plan-spec : {M : Type 1} → statement M
 plan-spec =
     tie.close
-    (tie.spec
-    Inv-loop
-    μ-loop
+    (tie.spec Inv-loop μ-loop (λ c κs. search needs)
+    (λ c. other-length (c .before .before .before .args .words .now) (c .zero-plan .ensures) (c .before .if1 .taken))
+    (λ c κs. search needs) (λ c κs. search needs)
+    (λ c. other-votes (c .before .before .before .before .before .args .words .now) (c .zero-plan2 .ensures) (refused-test (c .before .before .votes-ok .ensures) (c .before .if2 .taken)))
+    (λ c. search needs) (λ c. search needs) (λ c. search needs) (λ c. search needs) (λ c κs. search needs) (λ c κs. search needs)
     (λ c κs. search needs)
-    returns
-    (λ c κs. search needs)
-    (λ c κs. search needs)
-    returns-2
-    (λ c. search needs)
-    (λ c. search needs)
-    (λ c. search needs)
-    (λ c. search needs)
-    (λ c κs. search needs)
-    (λ c κs. search needs)
-    (λ c κs. search needs)
-    loop-holds
-    (λ c κs. search needs)
-    (λ c κs. search needs)
-    (λ c. search needs)
-    (λ c. search needs)
-    (λ c κs. search needs)
-    returns-3
-    (λ c. search needs)
-    (λ c. search needs)
-    (λ c. search needs)
-    (λ c. search needs)
-    loop-again
-    (λ c. search needs)
-    (λ c. search needs)
-    (λ c. search needs)
-    (λ c. search needs)
-    (λ c. search needs)
-    (λ c. search needs)
-    returns-4)
+    (λ c. (search needs, allBelow-none _, sym (fill-none _ _)))
+    (λ c κs. search needs) (λ c κs. search needs) (λ c. search needs) (λ c. search needs) (λ c κs. search needs) returns-3
+    (λ c. search needs) (λ c. search needs) (λ c. search needs) (λ c. search needs) loop-again (λ c. search needs) (λ c. search needs)
+    (λ c. search needs) (λ c. search needs) (λ c. search needs) (λ c. search needs) returns-4)
