@@ -1,6 +1,5 @@
 -- `ragbasalt_faults_size` meets its contract: a result for each way out.
 use borrow.Author.Needs.{needs}
-use mathlib.Core.Path.{ap, _∙_}
 use Rattle.plan.specs.Sizes.{sizesOf}
 use Rattle.system.specs.Fault.{faultsSize}
 use Rattle.plan_period.proofs.AnswerLaws.{accepted-of-period, refused-of-period}
@@ -9,22 +8,13 @@ use Rattle.ragbasalt_plan.proofs.SizeLaws.{size-none, size-given}
 use Rattle.ragbasalt_plan.proofs.ragbasalt_faults_size.Statement.{statement}
 use Rattle.ragbasalt_plan.proofs.ragbasalt_faults_size.Tie as tie
 
-returns : tie.Need-returns
-returns c = size-none (λ p. faultsSize (sizesOf p)) (c .before .before .plan .ensures) (refused-of-period _ (c .before .accepted-period .ensures) (c .if1 .taken))
-
-size-requires : tie.Need-size-requires
-size-requires c κs = small-numbers _ (accepted-of-period _ (c .before .before .accepted-period .ensures) (c .before .if1 .left)) (c .sizes-with .ensures)
-
-returns-2 : tie.Need-returns-2
-returns-2 c = size-given (λ p. faultsSize (sizesOf p)) (c .before .before .before .before .plan .ensures) (accepted-of-period _ (c .before .before .before .accepted-period .ensures) (c .before .before .if1 .left)) (c .size .ensures ∙ ap faultsSize (c .before .sizes-with .ensures))
-
 pub ragbasalt-faults-size-spec : {M : Type 1} → statement M
 ragbasalt-faults-size-spec =
     tie.close
-    (tie.spec
+    (tie.spec (λ c κs. search needs) (λ c κs. search needs)
+    (λ c. size-none (λ p. faultsSize (sizesOf p)) (c .before .before .plan .ensures) (refused-of-period _ (c .before .accepted-period .ensures) (c .if1 .taken)))
     (λ c κs. search needs)
-    (λ c κs. search needs)
-    returns
-    (λ c κs. search needs)
-    size-requires
-    returns-2)
+    (λ c κs. small-numbers _ (accepted-of-period _ (c .before .before .accepted-period .ensures) (c .before .if1 .left)) (c .sizes-with .ensures))
+    (λ c.
+    let found = c .before .before .before in
+    size-given (λ p. faultsSize (sizesOf p)) (found .before .plan .ensures) (accepted-of-period _ (found .accepted-period .ensures) (c .before .before .if1 .left)) (rw (c .before .sizes-with .ensures) at (c .size .ensures))))

@@ -7,21 +7,10 @@ use Rattle.ragbasalt_plan.proofs.SizeLaws.{size-none, size-given}
 use Rattle.ragbasalt_plan.proofs.ragbasalt_message_size.Statement.{statement}
 use Rattle.ragbasalt_plan.proofs.ragbasalt_message_size.Tie as tie
 
-returns : tie.Need-returns
-returns c = size-none messageSize (c .before .before .plan .ensures) (refused-of-period _ (c .before .accepted-period .ensures) (c .if1 .taken))
-
-message-size-requires : tie.Need-message-size-requires
-message-size-requires c κs = shape-of-accepted _ (accepted-of-period _ (c .before .accepted-period .ensures) (c .if1 .left)) .cells-le
-
-returns-2 : tie.Need-returns-2
-returns-2 c = size-given messageSize (c .before .before .before .plan .ensures) (accepted-of-period _ (c .before .before .accepted-period .ensures) (c .before .if1 .left)) (c .message-size .ensures)
-
 pub ragbasalt-message-size-spec : {M : Type 1} → statement M
 ragbasalt-message-size-spec =
     tie.close
-    (tie.spec
-    (λ c κs. search needs)
-    (λ c κs. search needs)
-    returns
-    message-size-requires
-    returns-2)
+    (tie.spec (λ c κs. search needs) (λ c κs. search needs)
+    (λ c. size-none messageSize (c .before .before .plan .ensures) (refused-of-period _ (c .before .accepted-period .ensures) (c .if1 .taken)))
+    (λ c κs. shape-of-accepted _ (accepted-of-period _ (c .before .accepted-period .ensures) (c .if1 .left)) .cells-le)
+    (λ c. size-given messageSize (c .before .before .before .plan .ensures) (accepted-of-period _ (c .before .before .accepted-period .ensures) (c .before .if1 .left)) (c .message-size .ensures)))
