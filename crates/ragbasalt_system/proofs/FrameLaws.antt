@@ -6,7 +6,6 @@ use Rattle.answer.specs.Refusal.{numberOf}
 use Rattle.answer.proofs.TestLaws.{first-passed}
 use Rattle.plan.specs.declared.Plan.{Plan}
 use Rattle.plan.specs.Limits.{mostNodes}
-use Rattle.plan.specs.Accepted.{accepted}
 use Rattle.plan.proofs.AcceptedLaws.{shape-of-accepted}
 use Rattle.system.specs.declared.System.{System}
 use Rattle.system.specs.declared.Framed.{Framed}
