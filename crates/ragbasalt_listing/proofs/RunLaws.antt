@@ -1,15 +1,14 @@
 -- Laws of a run as words, and of what the calls on a run give.
 use mathlib.Core.Path.{_≡_, refl, sym, ap, _∙_}
-use mathlib.Core.Bool.{Bool, true, false}
-use mathlib.Core.List.{List, [], _∷_}
+use mathlib.Core.Bool.{true}
+use mathlib.Core.List.{List}
 use mathlib.Core.Option.{Option, none, some, Option·getD}
 use Prim.Native.Nat.{ℕ, _≤_}
-use native.Mathlib.Omega.{arith}
-use lib.ListN.{length, getD, set}
+use lib.ListN.{getD, set}
 use Rattle.answer.specs.declared.Answer.{Answer}
 use Rattle.answer.specs.declared.Answer.the-variants.{Done}
 use Rattle.answer.specs.Refusal.{numberOf}
-use Rattle.answer.specs.Tests.{answered, unlessRefused}
+use Rattle.answer.specs.Tests.{unlessRefused}
 use Rattle.answer.proofs.TestLaws.{first-passed}
 use Rattle.plan.specs.declared.Plan.{Plan}
 use Rattle.plan.specs.Limits.{mostNodes}
@@ -25,9 +24,9 @@ use Rattle.lines.specs.declared.Run.{Run}
 use Rattle.lines.specs.declared.Printed.{Printed}
 use Rattle.listing_start.specs.declared.Started.{Started}
 use Rattle.listing_start.specs.Answers.{zeroRun, startOf, startAnswer}
-use Rattle.listing.specs.Answers.{lineTest, nextTests, nextAnswer}
+use Rattle.listing.specs.Answers.{nextTests, nextAnswer}
 use Rattle.system_words.specs.Words.{memoryAt, withMemory, systemOfWords, withSystem}
-use Rattle.ragbasalt_listing.specs.Words.{singleAt, periodAt, frameAt, runOf, withRun, runGiven}
+use Rattle.ragbasalt_listing.specs.Words.{singleAt, periodAt, frameAt, runOf, withRun}
 
 pub run-made :
     (p : Plan) (ws : List ℕ) {period frame : ℕ} {system : System} {single : Memory} →
@@ -41,11 +40,6 @@ pub run-put :
     a ≡ withSystem n (r .system) ws → b ≡ withMemory (r .single) singleAt a → c ≡ set b periodAt (r .period) → d ≡ set c frameAt (r .frame) → d ≡ withRun n r ws
 unfolding withRun
 run-put n r ws e f g h = h ∙ rw (g, f, e)
-
--- what a call leaves of a run's words
-module _ {A : Type 0} (answer : A → Answer) (run : A → Run) {o a : A} (made : o ≡ a) where
-  pub run-given : {n k : ℕ} → n ≡ k → (ws : List ℕ) {now : List ℕ} → now ≡ runGiven (answer o) n (run o) ws → now ≡ runGiven (answer a) k (run a) ws
-  run-given {n} e ws h = h ∙ ap (λ (x : A). runGiven (answer x) n (run x) ws) made ∙ ap (λ (m : ℕ). runGiven (answer a) m (run a) ws) e
 
 -- ---- a start that is not refused
 

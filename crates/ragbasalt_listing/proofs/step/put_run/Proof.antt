@@ -5,19 +5,17 @@ use Rattle.ragbasalt_listing.proofs.RunLaws.{run-put}
 use Rattle.ragbasalt_listing.proofs.step.put_run.Statement.{statement}
 use Rattle.ragbasalt_listing.proofs.step.put_run.Tie as tie
 
-same-length : tie.Need-same-length
-same-length c = c .before .before .put-word2 .kept .0 ∙ c .before .before .before .before .before .before .put-word .kept .0 ∙ c .before .before .before .before .before .before .before .before .before .before .put-memory .kept .1 .1 .0 ∙ c .before .before .before .before .before .before .before .before .before .before .before .before .before .before .put-system .kept .1 .1 .0
-
-returns : tie.Need-returns
-returns c = run-put _ _ _ (c .before .before .before .before .before .before .before .before .before .before .before .before .before .before .put-system .ensures) (c .before .before .before .before .before .before .before .before .before .before .put-memory .ensures) (c .before .before .before .before .before .before .put-word .ensures) (c .before .before .put-word2 .ensures)
-
 pub put-run-spec : {M : Type 1} → statement M
 put-run-spec =
     tie.close
-    (tie.spec
-    (λ c κs. search needs)
-    (λ c κs. search needs)
-    (λ c κs. search needs)
-    (λ c κs. search needs)
-    same-length
-    returns)
+    (tie.spec (λ c κs. search needs) (λ c κs. search needs) (λ c κs. search needs) (λ c κs. search needs)
+    (λ c.
+    let frame = c .before .before in
+    let period = frame .before .before .before .before in
+    let single = period .before .before .before .before in
+    frame .put-word2 .kept .0 ∙ period .put-word .kept .0 ∙ single .put-memory .kept .1 .1 .0 ∙ single .before .before .before .before .put-system .kept .1 .1 .0)
+    (λ c.
+    let frame = c .before .before in
+    let period = frame .before .before .before .before in
+    let single = period .before .before .before .before in
+    run-put _ _ _ (single .before .before .before .before .put-system .ensures) (single .put-memory .ensures) (period .put-word .ensures) (frame .put-word2 .ensures)))
