@@ -1,25 +1,24 @@
 -- The exported calls carry a record from call to call in its words: so demand 3 holds of them.
 use mathlib.Core.Path.{_≡_, refl, sym, ap, ap₂, _∙_}
-use mathlib.Core.Bool.{true, false}
+use mathlib.Core.Bool.{true}
 use mathlib.Core.List.{List, [], _∷_}
-use mathlib.Core.Logic.{_⊎_, inl, inr, ⊎-elim}
+use mathlib.Core.Logic.{inl, inr, ⊎-elim}
 use mathlib.Core.Option.{Option, none, some}
-use Prim.Native.Nat.{ℕ, suc, _+_, _*_, _^_, _≤_, _<_, min}
+use Prim.Native.Nat.{ℕ, suc, _^_, _<_}
 use native.Mathlib.Omega.{arith}
-use lib.Dec.{eqb, ltb}
-use lib.ListN.{length, getD, replicate, length-replicate}
+use lib.Dec.{ltb}
+use lib.ListN.{length, getD}
 use lib.Seq.{ext-getD}
-use borrow.Author.Tests.{ltb-true, ltb-false, ne-eqb, eq-eqb}
-use Rattle.array.specs.Index.{fill, from}
+use borrow.Author.Tests.{ltb-true, ne-eqb}
+use Rattle.array.specs.Index.{from}
 use Rattle.array.proofs.TestLaws.{split, and-left}
-use Rattle.array.proofs.PlacesLaws.{fill-length, fill-in, fill-out, from-length, from-at}
+use Rattle.array.proofs.PlacesLaws.{fill-length, from-length, from-at}
 use Rattle.array.proofs.WordLaws.{be-bound}
-use Rattle.answer.specs.declared.Answer.{Answer}
 use Rattle.answer.specs.Refusal.{numberOf}
 use Rattle.answer.specs.Tests.{Test, passed, answered, ifPassed}
 use Rattle.answer.proofs.TestLaws.{answered-done, answered-refused}
 use Rattle.plan.specs.declared.Plan.{Plan}
-use Rattle.plan.specs.Limits.{mostNodes, mostCells}
+use Rattle.plan.specs.Limits.{mostNodes}
 use Rattle.plan.specs.Known.{period}
 use Rattle.plan.specs.Accepted.{accepted}
 use Rattle.plan.specs.Sizes.{sizesOf}
@@ -28,24 +27,21 @@ use Rattle.plan.proofs.PeriodLaws.{period-bound}
 use Rattle.plan_period.specs.Answers.{planTests, checked}
 use Rattle.plan_words.specs.Words.{planOfWords}
 use Rattle.ballot.specs.Majority.{majority, orOwn}
-use Rattle.memory.specs.declared.Memory.{Memory}
 use Rattle.memory.specs.Size.{counterSize}
-use Rattle.memory.specs.Node.{zeroMemory, poweredOn, computed, counterIn, votedCounter, voted}
+use Rattle.memory.specs.Node.{computed, counterIn, votedCounter, voted}
 use Rattle.memory.proofs.NodeLaws.{poweredOn-counter, poweredOn-length, computed-small, computed-length}
-use Rattle.memory.proofs.VoteLaws.{vote-length}
 use Rattle.system.specs.declared.System.{System}
 use Rattle.system.specs.System.{zeroSystem, powerOn, systemPowerOnAnswer}
 use Rattle.system.specs.Fault.{bad, faultAt, faultMemory}
 use Rattle.system.specs.Counts.{countAfter, goodAfter}
-use Rattle.system.specs.Frame.{memoryOf, goodOf, computedBy, mailboxOf, memoryAfter, systemAfter}
-use Rattle.system.specs.FrameCall.{frameTests, frameAnswer, framePlace}
-use Rattle.system.specs.Demand.{Call, next, answers, places, finally, singleFinally, callAnswers, Premise, OnePlan, Tolerated}
-use Rattle.system.proofs.FaultLaws.{faultMemory-length}
+use Rattle.system.specs.Frame.{memoryOf, computedBy, mailboxOf, memoryAfter, systemAfter}
+use Rattle.system.specs.FrameCall.{frameTests, frameAnswer}
+use Rattle.system.specs.Demand.{next, answers, places, finally, OnePlan, Tolerated}
 use Rattle.system.proofs.DemandLaws.{demand3}
-use Rattle.system_words.specs.Words.{codeOf, ifDone, memoryCount, memoryWords, nodeAt, goodAt, systemCount, systemOfWords, withSystem, systemGiven}
+use Rattle.system_words.specs.Words.{ifDone, memoryCount, memoryWords, nodeAt, systemCount, withSystem, systemGiven}
 use Rattle.system_words.proofs.HeldLaws.{Fits, Shaped, Held, held-read, stored-held, filled-shaped, filled-held, zero-shaped}
 use Rattle.words_demand.specs.Calls.{wordsStarted}
-use Rattle.words_demand.specs.Demand.{WordsCall, callOf, calls, wordsNext, codes, wordsPlaces, wordsFinally, codesOf, OneWords, WordsTolerated, Demand3OfWords}
+use Rattle.words_demand.specs.Demand.{WordsCall, callOf, calls, wordsNext, codes, wordsPlaces, wordsFinally, codesOf, OneWords, Demand3OfWords}
 
 -- ---- a frame leaves a record that words can hold
 
