@@ -3,20 +3,7 @@ use mathlib.Core.Path.{_≡_}
 use Prim.Native.Nat.{ℕ, _+_, _*_, _/_, _%_, _^_, _≤_, _<_}
 use native.Mathlib.Omega.{arith}
 use Rattle.answer.specs.declared.Answer.{Answer}
-use Rattle.answer.specs.declared.Answer.the-variants.{
-  Done,
-  TextLength,
-  Malformed,
-  Header,
-  OutOfOrder,
-  OutOfRange,
-  Unrecoverable,
-  InvalidPlan,
-  WrongLength,
-  MaskOrCount,
-  RunLine,
-  NodesOrLength,
-}
+use Rattle.answer.specs.declared.Answer.the-variants.{Done, TextLength, Malformed, Header, OutOfOrder, OutOfRange, Unrecoverable, InvalidPlan, WrongLength, MaskOrCount, RunLine, NodesOrLength}
 use Rattle.answer.specs.Refusal.{numberOf, lineOf}
 use Rattle.system_words.specs.Words.{codeOf}
 

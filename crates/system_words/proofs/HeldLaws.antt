@@ -1,7 +1,7 @@
 -- Records and words undo each other: a record is read back from its words, and words whose counters and good counts are below 2^16 are those of the record that they are read to.
 use mathlib.Core.Path.{_≡_, refl, sym, subst, _∙_}
 use mathlib.Core.List.{List}
-use Prim.Native.Nat.{ℕ, zero, suc, _+_, _*_, _-_, _/_, _%_, _^_, _≤_, _<_, min}
+use Prim.Native.Nat.{ℕ, zero, suc, _+_, _-_, _/_, _%_, _^_, _≤_, _<_, min}
 use native.Mathlib.Omega.{arith}
 use native.Mathlib.Nat.{mod-eq-of-lt}
 use lib.Dec.{eqb, ltb}
@@ -43,7 +43,7 @@ module _ (ws : List ℕ) (at : ℕ) where
       let l : c < mostCells = omega (arith, from-length 0 ws (at + 1) mostCells) in
       let e : at + 1 + c ≡ at + suc c = omega arith in
       from-at 0 ws (at + 1) mostCells c l ∙ rw e (held (suc c) (omega arith))) in
-      λ i. record { counter = counter i; cells = cells i }
+      rw (counter, cells)
 
   -- words with a counter below 2^16
   module _ (low : getD ws at 0 < 2 ^ 16) where
@@ -106,7 +106,7 @@ held-read {ws} {sys} h =
     let good : fill (λ j. min (getD ws (goodAt + j) 0) 65535) mostNodes (zeroSystem .good) ≡ sys .good =
     fill-is _ mostNodes (zeroSystem .good) (sys .good) 0 (length-replicate {A = ℕ} mostNodes 0) (h .shaped .good)
     (λ j l. omega (arith, h .counts j l, h .shaped .low j l)) in
-    λ i. record { memories = memories i; good = good i }
+    rw (memories, good)
 
 -- and no others hold it
 pub held-same : {ws vs : List ℕ} {sys : System} → Held ws sys → Held vs sys → ws ≡ vs

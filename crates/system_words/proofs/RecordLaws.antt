@@ -1,7 +1,7 @@
 -- Laws of memories and records as words: what a loop has read or stored so far.
-use mathlib.Core.Path.{_≡_, refl, _∙_}
+use mathlib.Core.Path.{_≡_, refl, ap, _∙_}
 use mathlib.Core.List.{List}
-use Prim.Native.Nat.{ℕ, zero, suc, _+_, _*_, _%_, _^_, _≤_, _<_, min}
+use Prim.Native.Nat.{ℕ, zero, suc, _+_, _%_, _≤_, _<_, min}
 use native.Mathlib.Omega.{arith}
 use native.Mathlib.Numerals.{add-one}
 use lib.ListN.{length, getD, set, replicate, length-set, length-replicate}
@@ -15,9 +15,8 @@ use Rattle.plan.specs.Limits.{mostNodes, mostCells}
 use Rattle.memory.specs.declared.Memory.{Memory}
 use Rattle.memory.specs.Node.{zeroMemory}
 use Rattle.system.specs.declared.System.{System}
-use Rattle.system.specs.System.{zeroSystem}
 use Rattle.system.specs.Frame.{memoryOf, goodOf}
-use Rattle.system_words.specs.Words.{memoryCount, memoryAt, storedFrom, withMemory, nodeAt, goodAt, goodIn, systemOfWords, withMemories, withSystem}
+use Rattle.system_words.specs.Words.{memoryCount, memoryAt, storedFrom, memoryWords, withMemory, nodeAt, goodAt, goodIn, systemOfWords, withMemories, withSystem}
 
 -- ---- stored word after word
 
@@ -35,8 +34,11 @@ module _ (f : ℕ → ℕ) (at : ℕ) (l : List ℕ) where
   stored-length zero = refl
   stored-length (suc k) = length-set (storedFrom f at k l) (at + k) (f k) ∙ stored-length k
 
+  pub stored-kept : (k : ℕ) {now : List ℕ} → now ≡ storedFrom f at k l → length now ≡ length l
+  stored-kept k e = ap length e ∙ stored-length k
+
   -- the first word, then the others
-  pub stored-first : (n : ℕ) → storedFrom (λ k. f (suc k)) (at + 1) n (set l at (f 0)) ≡ storedFrom f at (suc n) l
+  stored-first : (n : ℕ) → storedFrom (λ k. f (suc k)) (at + 1) n (set l at (f 0)) ≡ storedFrom f at (suc n) l
   unfolding storedFrom
   stored-first zero = let e : at + 0 ≡ at = omega arith in rw e
   stored-first (suc n) = let e : at + 1 + n ≡ at + suc n = omega arith in rw (stored-first n, e)
@@ -69,6 +71,10 @@ memory-made ws at {counter} {cells} e f =
     let same : cells ≡ from 0 ws (at + 1) mostCells = f ∙ fill-from 0 ws (at + 1) mostCells (replicate mostCells 0) (length-replicate {A = ℕ} mostCells 0) in
     λ i. record { counter = e i; cells = same i }
 
+pub memory-put : (m : Memory) (at : ℕ) (ws : List ℕ) → storedFrom (λ d. getD (m .cells) d 0) (at + 1) mostCells (set ws at (m .counter)) ≡ withMemory m at ws
+unfolding memoryWords withMemory
+memory-put m at ws = stored-first (λ k. getD (memoryWords m) k 0) at ws mostCells
+
 -- ---- a system
 
 pub good-read : (ws : List ℕ) (j : ℕ) {w r : ℕ} → w ≡ getD ws (goodAt + j) 0 → r ≡ min w 65535 → r ≡ goodIn ws j
@@ -94,6 +100,10 @@ module _ (sys : System) (ws : List ℕ) where
       next ≡ withMemories sys (j + 1) ws
   unfolding withMemories
   memories-more j e f h = rw (add-one j, ← e, ← f) h
+
+  pub system-put : (n : ℕ) → storedFrom (goodOf sys) goodAt n (withMemories sys n ws) ≡ withSystem n sys ws
+  unfolding withSystem
+  system-put n = refl
 
   pub memories-length : (j : ℕ) → length (withMemories sys j ws) ≡ length ws
   unfolding withMemories withMemory

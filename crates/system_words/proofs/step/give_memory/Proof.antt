@@ -1,5 +1,4 @@
 -- `system_words::step::give_memory` meets its contract: one way out for each case of the answer.
-use mathlib.Core.Path.{sym, _∙_}
 use borrow.Author.Needs.{needs}
 use Rattle.system_words.specs.Words.{memoryGiven}
 use Rattle.system_words.proofs.GivenLaws.{done-given, done-kept}
@@ -15,5 +14,4 @@ unfolding memoryGiven
 returns-2 c = done-kept _ _ _ (c .before .number .ensures) (c .if1 .left)
 
 pub give-memory-spec : {M : Type 1} → statement M
-give-memory-spec =
-    tie.close (tie.spec (λ c κs. search needs) (λ c κs. search needs) (λ c. search needs) returns returns-2)
+give-memory-spec = tie.close (tie.spec (λ c κs. search needs) (λ c κs. search needs) (λ c. search needs) returns returns-2)

@@ -14,38 +14,17 @@ use Rattle.system_words.proofs.step.put_memories.Tie as tie
 abbrev Inv-loop : tie.InvT-loop
 Inv-loop nodes words₀ system j₀ words j = (j ≤ nodes) × (nodes ≤ mostNodes) × (words ≡ withMemories system j words₀)
 
-abbrev μ-loop : tie.MeasureT-loop
-μ-loop nodes words₀ system j₀ words j = nodes - j
-
-loop-holds : tie.Need-loop-holds Inv-loop μ-loop
-loop-holds c = (search needs, search needs, sym (memories-none _ _))
-
-loop-again : tie.Need-loop-again Inv-loop μ-loop
-loop-again c =
-    let a = c .before .before .before .before .before .before .before .before .args in
-    let l = c .before .before .before .before .before .before .loop in
-    let n : length (a .t2 .memories) ≡ mostNodes = search (needs, length-mapped) in
-    (search needs, l .inv .1, memories-more (a .t2) (a .words .now) (l .j) (l .inv .2) (any-default (a .t2 .memories) (l .j) _ _ (omega (arith, n, c .before .before .before .before .before .loop-test .taken, l .inv .1))) (c .before .before .put-memory .ensures))
-
-same-length : tie.Need-same-length Inv-loop μ-loop
-same-length c = ap length (c .before .loop .inv .2) ∙ memories-length _ _ (c .before .loop .j)
-
-returns : tie.Need-returns Inv-loop μ-loop
-returns c = let e : c .before .loop .j ≡ c .before .before .before .args .nodes = omega arith in c .before .loop .inv .2 ∙ rw e
-
 pub put-memories-spec : {M : Type 1} → statement M
 put-memories-spec =
     tie.close
-    (tie.spec
-    Inv-loop
-    μ-loop
-    loop-holds
-    (λ c. search needs)
-    (λ c. search needs)
-    (λ c. search needs)
-    (λ c κs. search needs)
-    (λ c. search needs)
-    (λ c. search needs)
-    loop-again
-    same-length
-    returns)
+    (tie.spec Inv-loop (λ nodes words₀ system j₀ words j. nodes - j)
+    (λ c. (search needs, search needs, sym (memories-none _ _)))
+    (λ c. search needs) (λ c. search needs) (λ c. search needs) (λ c κs. search needs) (λ c. search needs) (λ c. search needs)
+    (λ c.
+    let test = c .before .before .before .before .before in
+    let loop = test .before .loop in
+    let memories = test .before .before .before .args .t2 .memories in
+    let n : length memories ≡ mostNodes = search (needs, length-mapped) in
+    (search needs, loop .inv .1, memories-more _ _ (loop .j) (loop .inv .2) (any-default memories (loop .j) _ _ (omega (arith, n, test .loop-test .taken, loop .inv .1))) (c .before .before .put-memory .ensures)))
+    (λ c. ap length (c .before .loop .inv .2) ∙ memories-length _ _ (c .before .loop .j))
+    (λ c. let e : c .before .loop .j ≡ c .before .before .before .args .nodes = omega arith in rw e at (c .before .loop .inv .2)))

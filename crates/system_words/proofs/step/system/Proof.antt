@@ -1,5 +1,5 @@
 -- `system_words::step::system` meets its contract: the first j memories and counts are read.
-use mathlib.Core.Path.{_≡_, sym, _∙_}
+use mathlib.Core.Path.{_≡_, sym}
 use Prim.Native.Nat.{_-_, _≤_}
 use native.Mathlib.Omega.{arith}
 use borrow.Author.Needs.{needs}
@@ -16,36 +16,17 @@ abbrev Inv-loop : tie.InvT-loop
 Inv-loop words memories₀ good₀ j₀ memories good j =
     (j ≤ mostNodes) × (memories ≡ fill (λ i. memoryAt words (nodeAt i)) j memories₀) × (good ≡ fill (goodIn words) j good₀)
 
-abbrev μ-loop : tie.MeasureT-loop
-μ-loop words memories₀ good₀ j₀ memories good j = mostNodes - j
-
-loop-holds : tie.Need-loop-holds Inv-loop μ-loop
-loop-holds c = (search needs, sym (fill-none _ _), sym (fill-none _ _))
-
-loop-again : tie.Need-loop-again Inv-loop μ-loop
-loop-again c = (search needs, stored-next _ _ _ (c .before .before .before .before .loop .inv .1) (c .before .before .memory .ensures), stored-next _ _ _ (c .before .before .before .before .loop .inv .2) (good-read _ _ (c .before .word .ensures) (c .at-most .ensures)))
-
-returns : tie.Need-returns Inv-loop μ-loop
-returns c = system-made _ (c .before .before .zero-memory .ensures) (stored-all _ _ _ (c .before .loop .inv .1) (omega arith)) (stored-all _ _ _ (c .before .loop .inv .2) (omega arith))
-
 pub system-spec : {M : Type 1} → statement M
 system-spec =
     tie.close
-    (tie.spec
-    Inv-loop
-    μ-loop
+    (tie.spec Inv-loop (λ words memories₀ good₀ j₀ memories good j. mostNodes - j)
     (λ c κs. search needs)
-    loop-holds
-    (λ c. search needs)
-    (λ c κs. search needs)
-    (λ c. search needs)
-    (λ c. search needs)
-    (λ c. search needs)
-    (λ c κs. search needs)
-    (λ c κs. search needs)
-    (λ c. search needs)
-    (λ c. search needs)
-    (λ c. search needs)
-    (λ c. search needs)
-    loop-again
-    returns)
+    (λ c. (search needs, sym (fill-none _ _), sym (fill-none _ _)))
+    (λ c. search needs) (λ c κs. search needs) (λ c. search needs) (λ c. search needs) (λ c. search needs) (λ c κs. search needs)
+    (λ c κs. search needs) (λ c. search needs) (λ c. search needs) (λ c. search needs) (λ c. search needs)
+    (λ c.
+    let inv = c .before .before .before .before .loop .inv in
+    (search needs, stored-next _ _ _ (inv .1) (c .before .before .memory .ensures), stored-next _ _ _ (inv .2) (good-read _ _ (c .before .word .ensures) (c .at-most .ensures))))
+    (λ c.
+    let inv = c .before .loop .inv in
+    system-made _ (c .before .before .zero-memory .ensures) (stored-all _ _ _ (inv .1) (omega arith)) (stored-all _ _ _ (inv .2) (omega arith))))

@@ -5,8 +5,8 @@ use borrow.Author.Needs.{needs}
 use Rattle.system_words.proofs.step.word.Statement.{statement}
 use Rattle.system_words.proofs.step.word.Tie as tie
 
-returns-2 : tie.Need-returns-2
-returns-2 c = sym (List·getD-eq-default (c .before .args .words .now) 0 {n = c .before .args .i} (c .if1 .left))
-
 pub word-spec : {M : Type 1} → statement M
-word-spec = tie.close (tie.spec (λ c. search needs) (λ c. search needs) (λ c. search needs) returns-2)
+word-spec =
+    tie.close
+    (tie.spec (λ c. search needs) (λ c. search needs) (λ c. search needs)
+    (λ c. sym (List·getD-eq-default (c .before .args .words .now) 0 {n = c .before .args .i} (c .if1 .left))))
