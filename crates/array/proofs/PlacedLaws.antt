@@ -5,8 +5,10 @@ use Prim.Native.Nat.{ℕ, suc, _+_, _≤_, _<_}
 use native.Mathlib.Omega.{arith}
 use native.Mathlib.Nat.{add-zero}
 use lib.ListN.{length, getD, take, drop, set, length-append, length-take, length-drop, take-append-drop, List·getD-append}
-use lib.Seq.{getD-append-add, getD-take, getD-drop, length-take-le, take-at, drop-at, drop-drop, set-split, take-set-le}
+use lib.Seq.{ext-getD, getD-append-add, getD-take, getD-drop, length-take-le, take-at, drop-at, drop-drop, set-split, take-set-le}
+use Rattle.array.specs.Index.{from}
 use Rattle.array.specs.Code.{placed}
+use Rattle.array.proofs.PlacesLaws.{from-length, from-at}
 
 module _ (s : List ℕ) (at : ℕ) where
   pub placed-none : s ≡ placed s at []
@@ -74,3 +76,9 @@ part-back s t part at k e l = rw (drop-drop k at s, e, ← l)
 
 pub part-length : (s : List ℕ) (at k e : ℕ) → k ≡ e → at + k ≤ length s → length (take k (drop at s)) ≡ e
 part-length s at k e z l = length-take-le k (drop at s) (rw length-drop (omega arith)) ∙ z
+
+pub part-from : (s : List ℕ) (at k n : ℕ) → k ≡ n → at + k ≤ length s → take k (drop at s) ≡ from 0 s at n
+part-from s at k n e l =
+    let long : length (take k (drop at s)) ≡ n = part-length s at k n e l in
+    ext-getD 0 (take k (drop at s)) (from 0 s at n) (long ∙ sym (from-length 0 s at n))
+    (λ i h. let b : i < n = omega (arith, long) in getD-take k (drop at s) i 0 (omega arith) ∙ getD-drop at s i 0 ∙ sym (from-at 0 s at n i b))

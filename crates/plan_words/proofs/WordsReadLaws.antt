@@ -16,7 +16,7 @@ use Rattle.array.proofs.BitLaws.{mask-fits}
 use Rattle.array.proofs.TestLaws.{split, and-both, and-false-left, and-false-right}
 use Rattle.array.proofs.IndexLaws.{allBelow-at, allBelow-fails}
 use Rattle.array.proofs.PlacesLaws.{fill-more, fill-from, from-length, from-at}
-use Rattle.array.proofs.PlacedLaws.{part-length}
+use Rattle.array.proofs.PlacedLaws.{part-from}
 use Rattle.pattern.specs.Pattern.{valueOf}
 use Rattle.plan.specs.declared.Op.{Op}
 use Rattle.plan.specs.declared.Op.the-variants.{Take, Sum, Diff, Scale, Limit, Wind, Cam}
@@ -35,15 +35,6 @@ use Rattle.plan_words.specs.declared.step.TaskRead.the-variants.{Whole, 
 use Rattle.plan_words.specs.Words.{initialAt, votesAt, actuatorsAt, planSize, taskIn, voteIn, planIn, taskWords, voteWords, wordsOk, planOfWords}
 use Rattle.plan_words.specs.Code.{taskRead}
 use Rattle.plan_words.proofs.BitsLaws.{bit-of-four}
-
--- ---- entries stored one by one
-
--- as a part
-part-from : (s : List ℕ) (at n : ℕ) → at + n ≤ length s → take n (drop at s) ≡ from 0 s at n
-part-from s at n l =
-    let long : length (take n (drop at s)) ≡ n = part-length s at n n refl l in
-    ext-getD 0 (take n (drop at s)) (from 0 s at n) (long ∙ sym (from-length 0 s at n))
-    (λ i h. let k : i < n = omega arith in getD-take n (drop at s) i 0 k ∙ getD-drop at s i 0 ∙ sym (from-at 0 s at n i k))
 
 -- ---- the table of the bits of 0 to 15
 
@@ -266,4 +257,4 @@ module _ (ws : List ℕ) where
       ≡ planOfWords ws
   unfolding planOfWords planIn
   plan-read e v t hi ht hv ha =
-      rw (words-ok e v t, hi, ht, hv, ha, part-from ws initialAt mostCells (omega (arith, e)), fill-from 0 ws actuatorsAt mostActuators (replicate mostActuators 0) (length-replicate {A = ℕ} mostActuators 0))
+      rw (words-ok e v t, hi, ht, hv, ha, part-from ws initialAt mostCells mostCells refl (omega (arith, e)), fill-from 0 ws actuatorsAt mostActuators (replicate mostActuators 0) (length-replicate {A = ℕ} mostActuators 0))

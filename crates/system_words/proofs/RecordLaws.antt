@@ -1,16 +1,17 @@
 -- Laws of memories and records as words: what a loop has read or stored so far.
-use mathlib.Core.Path.{_≡_, refl, ap, _∙_}
-use mathlib.Core.List.{List}
-use Prim.Native.Nat.{ℕ, zero, suc, _+_, _%_, _≤_, _<_, min}
+use mathlib.Core.Path.{_≡_, refl, sym, ap, _∙_}
+use mathlib.Core.List.{List, _++_}
+use Prim.Native.Nat.{ℕ, zero, suc, _+_, _-_, _%_, _≤_, _<_, min}
 use native.Mathlib.Omega.{arith}
 use native.Mathlib.Numerals.{add-one}
-use lib.ListN.{length, getD, set, replicate, length-set, length-replicate}
-use lib.Dec.{eqb}
-use lib.Seq.{getD-set-same, getD-set-other}
-use borrow.Author.Tests.{eqb-true, eqb-false}
+use lib.ListN.{length, getD, set, take, drop, replicate, length-set, length-replicate}
+use lib.Dec.{eqb, ltb}
+use lib.Seq.{ext-getD, getD-set-same, getD-set-other}
+use borrow.Author.Tests.{eqb-true, eqb-false, ltb-true, ltb-false}
 use Rattle.array.specs.Index.{fill, from}
 use Rattle.array.proofs.TestLaws.{split}
-use Rattle.array.proofs.PlacesLaws.{fill-from}
+use Rattle.array.proofs.PlacedLaws.{placed-length, placed-in, placed-before, placed-after, part-back}
+use Rattle.array.specs.Code.{placed}
 use Rattle.plan.specs.Limits.{mostNodes, mostCells}
 use Rattle.memory.specs.declared.Memory.{Memory}
 use Rattle.memory.specs.Node.{zeroMemory}
@@ -59,21 +60,52 @@ module _ (f : ℕ → ℕ) (at : ℕ) (l : List ℕ) where
   stored-out (suc n) i h =
       getD-set-other (storedFrom f at n l) (at + n) i (f n) 0 (h n (omega arith)) ∙ stored-out n i (λ k b. h k (omega arith))
 
+-- as a part that is copied
+module _ (v : List ℕ) (at : ℕ) (l : List ℕ) (room : at + length v ≤ length l) where
+  stored-placed : storedFrom (λ k. getD v k 0) at (length v) l ≡ placed l at v
+  stored-placed =
+      let long : length (storedFrom (λ k. getD v k 0) at (length v) l) ≡ length l = stored-length _ at l (length v) in
+      ext-getD 0 (storedFrom (λ k. getD v k 0) at (length v) l) (placed l at v) (long ∙ sym (placed-length l at v room))
+      (λ i h.
+      split (ltb i at)
+      (λ t. let b : i < at = ltb-true i at t in stored-out _ at l (length v) i (λ k c e. omega arith) ∙ sym (placed-before l at v room i b))
+      (λ t.
+      let b : at ≤ i = ltb-false i at t in
+      split (ltb (i - at) (length v))
+      (λ u.
+      let c : i - at < length v = ltb-true _ _ u in
+      let e : at + (i - at) ≡ i = omega arith in
+      rw e at (stored-in (λ k. getD v k 0) at l (length v) (i - at) c room ∙ sym (placed-in l at v room (i - at) c)))
+      (λ u.
+      let c : length v ≤ i - at = ltb-false _ _ u in
+      let e : at + length v + (i - (at + length v)) ≡ i = omega arith in
+      stored-out _ at l (length v) i (λ k d f. omega arith) ∙ sym (rw e at (placed-after l at v room (i - (at + length v)))))))
+
 -- ---- a memory
 
 pub memory-made :
     (ws : List ℕ) (at : ℕ) {counter : ℕ} {cells : List ℕ} →
     counter ≡ getD ws at 0 % 65536 →
-    cells ≡ fill (λ c. getD ws (at + 1 + c) 0) mostCells (replicate mostCells 0) →
+    cells ≡ from 0 ws (at + 1) mostCells →
     _≡_ {A = Memory} (record { counter = counter; cells = cells }) (memoryAt ws at)
 unfolding memoryAt
-memory-made ws at {counter} {cells} e f =
-    let same : cells ≡ from 0 ws (at + 1) mostCells = f ∙ fill-from 0 ws (at + 1) mostCells (replicate mostCells 0) (length-replicate {A = ℕ} mostCells 0) in
-    λ i. record { counter = e i; cells = same i }
+memory-made ws at e f = λ i. record { counter = e i; cells = f i }
 
 pub memory-put : (m : Memory) (at : ℕ) (ws : List ℕ) → storedFrom (λ d. getD (m .cells) d 0) (at + 1) mostCells (set ws at (m .counter)) ≡ withMemory m at ws
 unfolding memoryWords withMemory
 memory-put m at ws = stored-first (λ k. getD (memoryWords m) k 0) at ws mostCells
+
+pub memory-copied :
+    (m : Memory) (at : ℕ) (ws part : List ℕ) {now : List ℕ} →
+    now ≡ set ws at (m .counter) →
+    length (m .cells) ≡ mostCells →
+    at + 1 + mostCells ≤ length now →
+    part ≡ m .cells →
+    take (at + 1) now ++ (part ++ drop (at + 1 + mostCells - (at + 1)) (drop (at + 1) now)) ≡ withMemory m at ws
+memory-copied m at ws part {now} e long room f =
+    part-back now (m .cells) part (at + 1) (at + 1 + mostCells - (at + 1)) f (omega arith)
+    ∙ sym (stored-placed (m .cells) (at + 1) now (omega arith))
+    ∙ rw (long, e) (memory-put m at ws)
 
 -- ---- a system
 

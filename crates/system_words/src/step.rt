@@ -1,9 +1,10 @@
 // From words to records and back, for any words. A word past the end of a slice reads as 0, and none is stored there: so nothing has to be known of a slice's length, which is lost
 // where an array is lent as a slice. The compiler knows it and makes no test.
 ghost use mathlib.Core.Path.{_≡_};
-ghost use Prim.Native.Nat.{_%_, _<_, _≤_, min};
-ghost use lib.ListN.{getD, set};
-ghost use Rattle.plan.specs.Limits.{mostNodes};
+ghost use Prim.Native.Nat.{_+_, _%_, _<_, _≤_, min};
+ghost use lib.ListN.{length, getD, set};
+ghost use Rattle.array.specs.Index.{from};
+ghost use Rattle.plan.specs.Limits.{mostNodes, mostCells};
 ghost use Rattle.answer.specs.Refusal.{numberOf};
 ghost use Rattle.system_words.specs.Words.{codeOf, memoryAt, withMemory, systemCount, systemOfWords, withMemories, withSystem, memoryGiven, systemGiven};
 use answer::Answer;
@@ -49,16 +50,29 @@ fn low(x: u64) -> u16
     (x % 65536) as u16
 }
 
+// The 32 patterns from a place, copied where the words have them all.
+fn patterns(words: &[u64], at: usize, cells: &mut [u64])
+    requires { ⌜ (at ≤ 1 + systemCount) × (length (now cells) ≡ mostCells) ⌝ }
+    ensures { λ _. ⌜ now (cells .exit) ≡ from 0 (now (words .entry)) at mostCells ⌝ }
+{
+    let end = at + Plan::CELLS;
+    if end <= words.len() {
+        array::step::copy(&words[at..end], cells);
+        return;
+    }
+    let mut c: usize = 0;
+    while c < Plan::CELLS {
+        cells[c] = word(words, at + c);
+        c += 1;
+    }
+}
+
 pub fn memory(words: &[u64], at: usize) -> Memory
     requires { ⌜ at ≤ systemCount ⌝ }
     ensures { λ r. ⌜ r ≡ memoryAt (now (words .entry)) at ⌝ }
 {
     let mut cells = [0u64; Plan::CELLS];
-    let mut c: usize = 0;
-    while c < Plan::CELLS {
-        cells[c] = word(words, at + 1 + c);
-        c += 1;
-    }
+    patterns(words, at + 1, &mut cells);
     let counter = low(word(words, at));
     Memory { counter, cells }
 }
@@ -68,9 +82,15 @@ pub fn put_memory(memory: Memory, at: usize, words: &mut [u64])
     ensures { λ _. ⌜ now (words .exit) ≡ withMemory memory at (now (words .entry)) ⌝ }
 {
     put_word(words, at, memory.counter as u64);
+    let first = at + 1;
+    let end = first + Plan::CELLS;
+    if end <= words.len() {
+        array::step::copy(&memory.cells, &mut words[first..end]);
+        return;
+    }
     let mut c: usize = 0;
     while c < Plan::CELLS {
-        put_word(words, at + 1 + c, memory.cells[c]);
+        put_word(words, first + c, memory.cells[c]);
         c += 1;
     }
 }
