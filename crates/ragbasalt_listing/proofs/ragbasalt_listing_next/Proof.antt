@@ -22,4 +22,4 @@ ragbasalt-listing-next-spec =
     let plan = read .before .before .before .plan .ensures in
     let run = rw plan at (read .run .ensures) in
     let a = rw run at (call .next .ensures .0) in
-    (rw a at (c .code .ensures), rw (a, plan) at (c .before .give-run .ensures), rw run at (call .next .ensures .1), rw a)))
+    (rw a at (c .code .ensures), rw (a, plan) at (c .before .give-run .ensures), rw run at (call .next .ensures .1), λ i. a i .count)))

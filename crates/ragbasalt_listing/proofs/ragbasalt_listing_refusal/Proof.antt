@@ -11,4 +11,4 @@ ragbasalt-listing-refusal-spec =
     let call = c .before .before .before in
     let answer = call .before .before .answer-of .ensures in
     let a = rw answer at (call .refusal .ensures .0) in
-    (rw a at (c .code .ensures), rw answer at (call .refusal .ensures .1), rw a)))
+    (rw a at (c .code .ensures), rw answer at (call .refusal .ensures .1), λ i. a i .count)))

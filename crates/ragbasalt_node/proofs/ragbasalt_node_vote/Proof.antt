@@ -10,4 +10,4 @@ ragbasalt-node-vote-spec =
     (λ c.
     let read = c .before .before .before .before in
     let a = rw (read .before .before .before .plan .ensures, read .memory .ensures) at (c .before .before .before .vote .ensures) in
-    (rw a at (c .code .ensures), rw a at (c .before .give-memory .ensures), rw a)))
+    (rw a at (c .code .ensures), rw a at (c .before .give-memory .ensures), λ i. a i .agreement)))

@@ -11,4 +11,4 @@ ragbasalt-plan-histories-spec =
     let call = c .before .before .before in
     let plan = call .before .before .plan .ensures in
     let a = rw plan at (call .histories .ensures .0) in
-    (rw a at (c .code .ensures), rw plan at (call .histories .ensures .1), rw a)))
+    (rw a at (c .code .ensures), rw plan at (call .histories .ensures .1), λ i. a i .count)))

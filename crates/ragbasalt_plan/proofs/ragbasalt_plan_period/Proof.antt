@@ -7,4 +7,4 @@ pub ragbasalt-plan-period-spec : {M : Type 1} → statement M
 ragbasalt-plan-period-spec =
     tie.close
     (tie.spec (λ c κs. search needs) (λ c κs. search needs) (λ c κs. search needs)
-    (λ c. let a = rw (c .before .before .plan .ensures) at (c .before .recovery-period .ensures) in (rw a at (c .code .ensures), rw a)))
+    (λ c. let a = rw (c .before .before .plan .ensures) at (c .before .recovery-period .ensures) in (rw a at (c .code .ensures), λ i. a i .period)))

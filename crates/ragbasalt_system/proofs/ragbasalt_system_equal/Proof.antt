@@ -10,4 +10,4 @@ ragbasalt-system-equal-spec =
     (λ c.
     let read = c .before .before .before .before in
     let a = rw (read .before .before .plan .ensures, read .system .ensures, c .before .before .memory .ensures) at (c .before .equal .ensures) in
-    (rw a at (c .code .ensures), rw a)))
+    (rw a at (c .code .ensures), λ i. a i .count)))

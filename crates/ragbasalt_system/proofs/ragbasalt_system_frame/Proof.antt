@@ -15,4 +15,4 @@ ragbasalt-system-frame-spec =
     let read = call .before .before in
     let plan = read .before .before .before .plan .ensures in
     let a = rw (plan, read .system .ensures) at (call .frame .ensures .0) in
-    (rw a at (c .code .ensures), rw (a, plan) at (c .before .give-system .ensures), rw (plan, read .system .ensures) at (call .frame .ensures .1), rw a)))
+    (rw a at (c .code .ensures), rw (a, plan) at (c .before .give-system .ensures), rw (plan, read .system .ensures) at (call .frame .ensures .1), λ i. a i .agreement)))

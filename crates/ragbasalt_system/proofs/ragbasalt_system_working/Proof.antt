@@ -10,4 +10,4 @@ ragbasalt-system-working-spec =
     (λ c.
     let read = c .before .before in
     let a = rw (read .before .before .plan .ensures, read .system .ensures) at (c .before .working .ensures) in
-    (rw a at (c .code .ensures), rw a)))
+    (rw a at (c .code .ensures), λ i. a i .count)))
