@@ -1,4 +1,4 @@
--- Laws of what an exported call gives: what the call that it wraps gives.
+-- Laws of words that a call stores where nothing was refused.
 use mathlib.Core.Path.{_≡_, _∙_}
 use mathlib.Core.List.{List}
 use Prim.Native.Nat.{ℕ}
@@ -7,7 +7,6 @@ use Rattle.answer.specs.declared.Answer.{Answer}
 use Rattle.answer.specs.Refusal.{numberOf}
 use Rattle.system_words.specs.Words.{ifDone}
 
--- words that are stored where nothing was refused
 module _ (a : Answer) (new old : List ℕ) {n : ℕ} (e : n ≡ numberOf a) where
   pub done-given : n ≡ 0 → {now : List ℕ} → now ≡ new → now ≡ ifDone a new old
   unfolding ifDone
