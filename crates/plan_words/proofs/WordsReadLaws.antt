@@ -100,7 +100,7 @@ vote-here ws g c l =
     let cell : votePlace g c % mostCells ≡ c = omega arith in
     rw (frame, cell)
 
--- a word of votes has no bit past the cells
+-- no bit past the cells, as the code tests it
 pub vote-tested : (ws : List ℕ) (g : ℕ) → voteWords ws g ≡ eqb (getD ws (votesAt + g) 0 / 2 ^ mostCells) 0
 unfolding voteWords voteIn
 vote-tested ws g = sym (mask-fits (getD ws (votesAt + g) 0) mostCells)
