@@ -102,13 +102,13 @@ fn task_of(l: Line) -> TaskRead
     if l.fifth != 0 {
         return TaskRead::Malformed;
     }
-    if kind == Line::CAM {
-        return whole(l, Op::Cam(a));
+    if kind == Line::TAKE {
+        return whole(l, Op::Take(a));
     }
-    if kind != Line::TAKE {
+    if kind != Line::CAM {
         return TaskRead::Malformed;
     }
-    whole(l, Op::Take(a))
+    whole(l, Op::Cam(a))
 }
 
 fn votes_ok(words: &[u64]) -> bool

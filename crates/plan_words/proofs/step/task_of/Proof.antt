@@ -16,7 +16,7 @@ returns-9 c =
     let six = c .before .before .before .before in
     let four = six .before .before in
     let two = four .before .before .before in
-    said-no-kind _ _ _ _ _ _ (two .before .if1 .left) (two .if2 .left) (four .if4 .left) (six .before .if5 .left) (six .if6 .left) (c .before .if8 .left) (c .if9 .taken)
+    said-no-kind _ _ _ _ _ _ (two .before .if1 .left) (two .if2 .left) (four .if4 .left) (six .before .if5 .left) (six .if6 .left) (c .if9 .taken) (c .before .if8 .left)
 
 pub task-of-spec : {M : Type 1} → statement M
 task-of-spec =
@@ -33,6 +33,6 @@ task-of-spec =
     (λ c κs. search needs) (λ c κs. search needs)
     (λ c. said-scale _ _ _ _ _ (c .before .before .if6 .taken) (c .before .before .before .before .before .if3 .left) (c .before .value5 .ensures) (c .whole5 .ensures))
     returns-7 (λ c κs. search needs)
-    (λ c. said-cam _ _ _ _ _ (c .before .if8 .taken) (c .before .before .before .before .before .before .before .if3 .left) (c .before .before .if7 .left) (c .whole6 .ensures))
+    (λ c. said-take _ _ _ _ _ (c .before .if8 .taken) (c .before .before .before .before .before .before .before .if3 .left) (c .before .before .if7 .left) (c .whole6 .ensures))
     returns-9 (λ c κs. search needs)
-    (λ c. said-take _ _ _ _ _ (c .before .if9 .left) (c .before .before .before .before .before .before .before .before .if3 .left) (c .before .before .before .if7 .left) (c .whole7 .ensures)))
+    (λ c. said-cam _ _ _ _ _ (c .before .if9 .left) (c .before .before .before .before .before .before .before .before .if3 .left) (c .before .before .before .if7 .left) (c .whole7 .ensures)))
