@@ -177,7 +177,7 @@ fn legend(run: &Run, shared: bool) -> String {
         count => format!("n0 to n{}", count - 1),
     };
     let mut out = format!(
-        "{nodes}: ok working; BAD bad; +1, +2 and so on: recovering, good for so many frames, working after {}\n\
+        "{nodes}: ok working; BAD bad; +1, +2 and so on: recovering, good for so many frames, working from the frame after +{} on\n\
          equal: nodes whose memory is that of a controller that never failed; agree: the least agreement of a good node\n",
         run.period
     );

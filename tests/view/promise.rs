@@ -154,7 +154,7 @@ frame   bad   n0   n1  n2  equal  agree  total
     5!    -   ok   ok  ok      0      3      2*
     6!    -   ok   ok  ok      0      3      2*
 
-n0 to n2: ok working; BAD bad; +1, +2 and so on: recovering, good for so many frames, working after 3
+n0 to n2: ok working; BAD bad; +1, +2 and so on: recovering, good for so many frames, working from the frame after +3 on
 equal: nodes whose memory is that of a controller that never failed; agree: the least agreement of a good node
 !: nothing is promised, also where nodes are ok again and setpoints right: the promise is for runs with more than half of the nodes working in every frame since power-on
 *: not what a press without faults gets (the same run with nobody bad, by the proved program)
