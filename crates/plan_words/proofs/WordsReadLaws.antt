@@ -8,14 +8,13 @@ use native.Mathlib.Omega.{arith}
 use lib.Dec.{eqb}
 use lib.Ieee.{Float}
 use lib.ListN.{length, getD, set, take, drop, replicate, length-replicate}
-use lib.Seq.{ext-getD, getD-take, getD-drop}
 use borrow.Author.Tests.{eq-eqb, ne-eqb, not-true}
 use Rattle.array.specs.Index.{allBelow, fill, from}
 use Rattle.array.specs.Bit.{bit}
 use Rattle.array.proofs.BitLaws.{mask-fits}
 use Rattle.array.proofs.TestLaws.{split, and-both, and-false-left, and-false-right}
 use Rattle.array.proofs.IndexLaws.{allBelow-at, allBelow-fails}
-use Rattle.array.proofs.PlacesLaws.{fill-more, fill-from, from-length, from-at}
+use Rattle.array.proofs.PlacesLaws.{fill-more, fill-from}
 use Rattle.array.proofs.PlacedLaws.{part-from}
 use Rattle.pattern.specs.Pattern.{valueOf}
 use Rattle.plan.specs.declared.Op.{Op}

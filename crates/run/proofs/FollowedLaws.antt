@@ -1,7 +1,7 @@
 -- What the blocks of a run print, one after another, is the listing of what was read.
 use mathlib.Core.Path.{_≡_, refl, sym, ap, _∙_}
-use mathlib.Core.Bool.{Bool, true, false}
-use mathlib.Core.List.{List, [], _++_, append-assoc, append-nil}
+use mathlib.Core.Bool.{false}
+use mathlib.Core.List.{List, _++_, append-assoc, append-nil}
 use Prim.Native.Nat.{ℕ}
 use native.Mathlib.Omega.{arith}
 use Rattle.array.proofs.TestLaws.{split}
@@ -11,7 +11,7 @@ use Rattle.lines.specs.declared.Run.{Run}
 use Rattle.lines.specs.Code.{linesAnswer}
 use Rattle.lines.specs.Blocks.{blockListing}
 use Rattle.lines.proofs.BlockLaws.{run-split}
-use Rattle.run.specs.Followed.{Passed, nothing, further, Reached, Followed}
+use Rattle.run.specs.Followed.{Passed, nothing, further, Followed}
 
 -- a block of which no line is refused has none left
 none-left : (r : Run) (block : List ℕ) → numberOf (linesAnswer r block .answer) ≡ 0 → lineLeft (r .plan) (r .system) (r .single) (r .frame) block ≡ false

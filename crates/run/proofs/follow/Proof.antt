@@ -27,7 +27,7 @@ use Rattle.lines.specs.Code.{linesAnswer}
 use Rattle.lines.specs.Blocks.{blockListing, LaidBlock}
 use Rattle.lines.proofs.StepLaws.{front-length}
 use Rattle.lines.proofs.RunLaws.{lines-further, lines-in-time}
-use Rattle.run.specs.Followed.{Passed, nothing, further, Reached, Followed}
+use Rattle.run.specs.Followed.{nothing, further, Reached}
 use Rattle.run.proofs.follow.Statement.{statement}
 use Rattle.run.proofs.follow.Tie as tie
 
