@@ -237,7 +237,7 @@
  *   setpoints can differ in their last bit or be 0, a plan against the rules can be accepted, and with an exception
  *   unmasked a call can end by a signal. ragbasalt_arithmetic_holds, the last function below, tells.
  * - There is stack. Measured on this archive, a call takes below its caller at most 25,300 bytes on a plan or on one node,
- *   29,900 on a system, 27,100 for ragbasalt_listing_start and 61,900 for ragbasalt_listing_next. Allow for some more.
+ *   30,000 on a system, 27,700 for ragbasalt_listing_start and 60,200 for ragbasalt_listing_next. Allow for some more.
  *
  * Everything else is answered: with these kept no content of a buffer, no length, no mask and no number makes a call trap or
  * run for ever.
@@ -247,8 +247,10 @@
  * leaves them alone, and saves the SSE registers and MXCSR.
  *
  * Time: every call makes the plan of its struct and tests it, R included. Measured, and not proved: ragbasalt_plan_check
- * takes 11,000 to 15,000 instructions on plans with an R of at most some 15, and 101,000 on one with R = 512; a node's call
- * up to 2,000 more, ragbasalt_system_frame 8,000 to 25,000 more.
+ * takes 11,000 to 15,000 instructions on plans with an R of at most some 15, and 101,000 on one with R = 512. A node's call
+ * takes up to 5,000 more, a vote of 32 cells without a majority 14,000. ragbasalt_system_frame takes 5,000 to 22,000 more on
+ * the plans of tests/listings with at most one bad node; with seven nodes and 64 tasks and 32 votes in one frame up to
+ * 52,000, and up to 97,000 where four of the seven are bad.
  */
 #ifndef RAGBASALT_H
 #define RAGBASALT_H
