@@ -119,13 +119,16 @@ module _ (r : Run) (input out : List ℕ) (got count : ℕ) (left : Run) (h : La
 
 loop-less : tie.Need-loop-less Inv-loop μ-loop
 loop-less c =
-    let b = c .before .before .before .before .before .before .block in
-    let l = c .before .before .before .before .before .before .before .before .before .before .before .loop in
-    let a = c .before .before .before .before .before .before .before .before .before .before .before .before .before .before .before .args in
-    let h = shape-of-accepted (a .start .plan) (c .before .before .before .before .before .before .before .before .before .before .before .before .before .before .before .pre .0) in
-    let n : length (take (128 * c .before .before .before .before .before .before .before .before .before .before .before .before .before .before .line-size .result - 0) (l .input)) ≡ 128 * c .before .before .before .before .before .before .before .before .before .before .before .before .before .before .line-size .result = front-length (l .input) refl (omega (arith, c .before .before .before .before .before .before .before .before .before .before .before .before .before .before .line-size .ensures, h .sensors-le, l .inv .4)) in
+    let ended = c in
+    let read = ended .before .before .before .before .before .before in
+    let turn = read .before .before .before .before .before in
+    let b = read .block in
+    let l = turn .loop in
+    let a = turn .before .before .before .before .args in
+    let h = shape-of-accepted (a .start .plan) (turn .before .before .before .before .pre .0) in
+    let n : length (take (128 * turn .before .before .before .line-size .result - 0) (l .input)) ≡ 128 * turn .before .before .before .line-size .result = front-length (l .input) refl (omega (arith, turn .before .before .before .line-size .ensures, h .sensors-le, l .inv .4)) in
     let t : b .result .run .frame ≤ mostRunLines = left-in-time (l .run) (b .last .1 .1 .0) _ (b .result .got) _ _ (b .ensures .2) (l .inv .2) in
-    let f : l .run .frame < b .result .run .frame = left-further (l .run) (b .last .1 .1 .0) _ (b .result .got) _ _ (b .ensures .2) (b .ensures .3) (not-false _ (c .before .if1 .left)) (omega (arith, b .ensures .0, n, c .before .before .before .before .before .before .before .before .before .before .before .before .before .before .line-size .ensures)) in
+    let f : l .run .frame < b .result .run .frame = left-further (l .run) (b .last .1 .1 .0) _ (b .result .got) _ _ (b .ensures .2) (b .ensures .3) (not-false _ (ended .before .if1 .left)) (omega (arith, b .ensures .0, n, turn .before .before .before .line-size .ensures)) in
     omega (arith, t, f)
 
 -- a front that comes back as it was lent
@@ -134,10 +137,13 @@ front-back l part rest k n e z f = take-at part rest k (e ∙ length-take-le k l
 
 loop-again : tie.Need-loop-again Inv-loop μ-loop
 loop-again c =
-    let l = c .before .before .before .before .before .before .before .before .before .before .before .loop in
-    let b = c .before .before .before .before .before .before .block in
-    let k = c .before .before .before .before .before .before .before .before .before .before .before .before .size .result in
-    let fit = bytes-fit (c .before .before .before .before .before .before .before .before .before .before .before .before .before .before .before .args .start .plan) (c .before .before .before .before .before .before .before .before .before .before .before .before .before .before .before .pre .0) (c .before .before .before .before .before .before .before .before .before .before .before .before .before .sizes-with .ensures) (c .before .before .before .before .before .before .before .before .before .before .before .before .size .ensures) (l .inv .7) in
+    let turned = c in
+    let read = turned .before .before .before .before .before .before in
+    let turn = read .before .before .before .before .before in
+    let l = turn .loop in
+    let b = read .block in
+    let k = turn .before .size .result in
+    let fit = bytes-fit (turn .before .before .before .before .args .start .plan) (turn .before .before .before .before .pre .0) (turn .before .before .sizes-with .ensures) (turn .before .size .ensures) (l .inv .7) in
     let part : List ℕ = b .last .1 .1 .1 .1 .0 in
     let rest : List ℕ = drop (k - 0) (l .faults) in
     let back : take (k - 0) (part ++ rest) ≡ part = front-back (l .faults) part rest (k - 0) k (b .ensures .5) (omega arith) (fit .1) in
@@ -146,12 +152,12 @@ loop-again c =
       left-period (l .run) (b .last .1 .1 .0) _ (b .result .got) _ _ (b .ensures .2) ∙ l .inv .1 ∙ ap period (sym plan),
       left-in-time (l .run) (b .last .1 .1 .0) _ (b .result .got) _ _ (b .ensures .2) (l .inv .2),
       plan ∙ l .inv .3,
-      length-front (l .input) (b .last .1 .1 .0) (128 * c .before .before .before .before .before .before .before .before .before .before .before .before .before .before .line-size .result - 0) (b .ensures .0) ∙ l .inv .4,
+      length-front (l .input) (b .last .1 .1 .0) (128 * turn .before .before .before .line-size .result - 0) (b .ensures .0) ∙ l .inv .4,
       length-front (l .out) (b .last .1 .1 .1 .1 .1 .0) 23181 (b .ensures .7) ∙ l .inv .5,
       b .ensures .4,
       length-front (l .faults) (b .last .1 .1 .1 .1 .0) (k - 0) (b .ensures .5) ∙ l .inv .7,
       rw (back, plan) (b .ensures .6),
-      left-reached (l .run) (b .last .1 .1 .0) _ (b .result .got) _ _ (b .ensures .2) (left-done (l .run) (b .last .1 .1 .0) _ (b .result .got) _ _ (b .ensures .2) (b .ensures .3) (not-false _ (c .before .if1 .left))) (l .inv .9),
+      left-reached (l .run) (b .last .1 .1 .0) _ (b .result .got) _ _ (b .ensures .2) (left-done (l .run) (b .last .1 .1 .0) _ (b .result .got) _ _ (b .ensures .2) (b .ensures .3) (not-false _ (turned .before .if1 .left))) (l .inv .9),
     )
 
 pub follow-spec : {M : Type 1} → statement M
