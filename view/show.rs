@@ -46,6 +46,9 @@ pub fn summary(run: &Run) -> String {
     let ended = run.refusal.map_or(String::new(), |refusal| {
         format!(", ended by refusal {} of line {}", refusal.number, refusal.line)
     });
+    if frames == 0 {
+        return format!("no frame run{ended}");
+    }
     format!("{} run, {}, {off}{ended}", plural(frames, "frame"), plural(faults, "fault"))
 }
 

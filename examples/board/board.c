@@ -36,10 +36,19 @@ static void done(const char *call, ragbasalt_answer answer)
         stop(call, ragbasalt_number_of(answer), ragbasalt_line_of(answer));
 }
 
-/* The bytes of a file, at most `room` of them; a file that can't be opened counts as empty. */
-static size_t contents(const char *name, uint8_t *bytes, size_t room)
+/* A file to be read; one that can't be opened counts as empty. */
+static FILE *opened(const char *name)
 {
     FILE *file = fopen(name, "rb");
+    if (file == NULL)
+        fprintf(stderr, "board: %s can't be opened, and counts as empty\n", name);
+    return file;
+}
+
+/* The bytes of a file, at most `room` of them. */
+static size_t contents(const char *name, uint8_t *bytes, size_t room)
+{
+    FILE *file = opened(name);
     size_t count;
     if (file == NULL)
         return 0;
@@ -170,7 +179,7 @@ int main(void)
     message_bytes = ragbasalt_message_size(&plan);
     power_on();
 
-    run = fopen("run.txt", "rb");
+    run = opened("run.txt");
     for (frame = 0; run != NULL && run_line(run, frame, &mask, &fill, sensors); frame++) {
         for (i = 0; i < nodes; i++)
             if (mask >> i & 1)

@@ -220,6 +220,10 @@ fn refused_texts(work: &Work) -> Result<(), String> {
         "1 frame run, 0 faults, every setpoint as without faults, ended by refusal 10 of line 2\n",
     );
     same("show", (output.status, output.errors.contains(words), ended), (1, true, true))?;
+    work.file("line/run.txt", work.example("k/run.txt")?.replacen("   0 255", "   8 255", 1))?;
+    let output = call(work.tree, &["show", &work.at("line")]);
+    let ended = output.out.contains("; no frame run, ended by refusal 10 of line 1\n");
+    same("show of no frame", (output.status, ended), (1, true))?;
     let words = "refusal 11: histories are listed for plans of at most 5 nodes";
     work.refused(&["histories", "tests/listings/largest/plan.txt"], "  11       0\n", words)
 }
