@@ -2,10 +2,12 @@
 -- blocks are to each other, and proofs/FollowedLaws that what they print is the listing of what was read.
 use mathlib.Core.Path.{_≡_}
 use mathlib.Core.List.{List, [], _++_}
-use Prim.Native.Nat.{ℕ}
+use Prim.Native.Nat.{ℕ, _*_, _<_}
+use lib.ListN.{length}
 use Rattle.answer.specs.Refusal.{numberOf}
+use Rattle.run_line.specs.Line.{runLineSize}
 use Rattle.lines.specs.declared.Run.{Run}
-use Rattle.lines.specs.Code.{linesAnswer}
+use Rattle.lines.specs.Code.{blockLines, linesAnswer}
 use Rattle.lines.specs.Blocks.{blockListing}
 
 -- blocks of which no line was refused: their bytes, what they print, and the run that they leave
@@ -21,9 +23,10 @@ pub record Reached (start r : Run) : Type 0 where
   pub printed : List ℕ
   pub passed : Passed start read printed r
 
--- the run after them and one more, the last: it ends the file, or a line of it is refused
+-- the run after them and one more, the last: it was not filled, or a line of it was refused
 pub record Followed (start left : Run) : Type 0 where
   pub before : Run
   pub reached : Reached start before
   pub last : List ℕ
+  pub ends : numberOf (linesAnswer before last .answer) ≡ 0 → length last < blockLines * runLineSize (start .plan .sensors)
   pub left-is : left ≡ linesAnswer before last .run

@@ -1,6 +1,6 @@
 -- `run::follow` meets its contract: each block begins with the run that the one before left. It ends: each block that is read whole brings the run nearer to its last line.
 use mathlib.Core.Path.{_≡_, refl, sym, ap, _∙_, subst}
-use mathlib.Core.Bool.{Bool, true, _&&_}
+use mathlib.Core.Bool.{Bool, true, false, _&&_}
 use mathlib.Core.List.{List, [], _++_}
 use Prim.Native.Nat.{ℕ, _-_, _*_, _≤_, _<_}
 use lib.Dec.{eqb}
@@ -8,7 +8,7 @@ use native.Mathlib.Omega.{arith}
 use lib.ListN.{length, take, drop, length-replicate}
 use lib.Seq.{length-take-le, length-front, take-at}
 use borrow.Author.Needs.{needs}
-use borrow.Author.Tests.{not-false, eqb-true}
+use borrow.Author.Tests.{not-true, not-false, eq-eqb, eqb-true, eqb-false}
 use Rattle.array.proofs.TestLaws.{and-left, and-right}
 use Rattle.answer.specs.Refusal.{numberOf}
 use Rattle.plan.specs.declared.Plan.{Plan}
@@ -84,12 +84,6 @@ block-requires c κs =
     let f : length (take (c .before .before .before .before .before .size .result - 0) (l .faults)) ≡ faultsSize (sizesOf (l .run .plan)) = front-length (l .faults) refl (b .1) ∙ b .0 ∙ ap (λ (q : Plan). faultsSize (sizesOf q)) (sym (l .inv .3)) in
     (l .inv .0, l .inv .1, l .inv .2, omega (arith, n, size .ensures, same), l .inv .6, f, l .inv .8, omega (arith, m, p .actuators-le))
 
-returns : tie.Need-returns Inv-loop μ-loop
-returns c =
-    let b = c .before .before .before .before .before .before .block in
-    let l = c .before .before .before .before .before .before .before .before .before .before .before .loop in
-    record { before = l .run; reached = l .inv .9; last = take (b .result .got) (b .last .1 .1 .0); left-is = b .ensures .2 .run-is }
-
 -- the run that a block leaves
 module _ (r : Run) (input out : List ℕ) (got count : ℕ) (left : Run) (h : LaidBlock r (take got input) out count left) where
   left-plan : left .plan ≡ r .plan
@@ -106,6 +100,14 @@ module _ (r : Run) (input out : List ℕ) (got count : ℕ) (left : Run) (h : La
   left-done : {more : Bool} → more ≡ (eqb (numberOf (linesAnswer r (take got input) .answer)) 0 && eqb got (length input)) → more ≡ true → numberOf (linesAnswer r (take got input) .answer) ≡ 0
   left-done m t = eqb-true _ 0 (and-left _ (eqb got (length input)) (sym m ∙ t))
 
+  left-short :
+      {more : Bool} → more ≡ (eqb (numberOf (linesAnswer r (take got input) .answer)) 0 && eqb got (length input)) → more ≡ false → got ≤ length input →
+      numberOf (linesAnswer r (take got input) .answer) ≡ 0 → length (take got input) < length input
+  left-short m t fits e =
+      let b : (eqb (numberOf (linesAnswer r (take got input) .answer)) 0 && eqb got (length input)) ≡ false = sym m ∙ t in
+      let short : eqb got (length input) ≡ false = rw (eq-eqb _ 0 e) at b in
+      omega (arith, length-take-le got input fits, eqb-false got (length input) short, fits)
+
   left-reached : {start : Run} → numberOf (linesAnswer r (take got input) .answer) ≡ 0 → Reached start r → Reached start left
   left-reached {start} e before =
       subst (Reached start) (sym (h .run-is)) (record { read = before .read ++ take got input; printed = before .printed ++ blockListing r (take got input); passed = further (before .passed) (take got input) e })
@@ -116,6 +118,24 @@ module _ (r : Run) (input out : List ℕ) (got count : ℕ) (left : Run) (h : La
       let whole : got ≡ length input = eqb-true got (length input) (and-right (eqb (numberOf (linesAnswer r (take got input) .answer)) 0) (eqb got (length input)) b) in
       let some : 0 < length (take got input) = omega (arith, length-take-le got input (omega arith)) in
       rw (h .run-is) (lines-further r (take got input) (left-done m t) some)
+
+returns : tie.Need-returns Inv-loop μ-loop
+returns c =
+    let read = c .before .before .before .before .before .before in
+    let turn = read .before .before .before .before .before in
+    let b = read .block in
+    let l = turn .loop in
+    let a = turn .before .before .before .before .args in
+    let h = shape-of-accepted (a .start .plan) (turn .before .before .before .before .pre .0) in
+    let size = turn .before .before .before .line-size in
+    let n : length (take (128 * size .result - 0) (l .input)) ≡ 128 * size .result = front-length (l .input) refl (omega (arith, size .ensures, h .sensors-le, l .inv .4)) in
+    record {
+      before = l .run;
+      reached = l .inv .9;
+      last = take (b .result .got) (b .last .1 .1 .0);
+      ends = λ e. omega (arith, left-short (l .run) (b .last .1 .1 .0) _ (b .result .got) _ _ (b .ensures .2) (b .ensures .3) (not-true _ (c .before .if1 .taken)) (b .ensures .1) e, b .ensures .0, n, size .ensures);
+      left-is = b .ensures .2 .run-is;
+    }
 
 loop-less : tie.Need-loop-less Inv-loop μ-loop
 loop-less c =
