@@ -76,10 +76,10 @@ impl Lent {
             message: vec![],
             mailbox: vec![],
             place: vec![],
-            system: vec![0; 238],
+            system: vec![0; 246],
             mask,
             faults: vec![],
-            run: vec![0; 273],
+            run: vec![0; 281],
             line: vec![],
             number: 0,
         };

@@ -1,4 +1,4 @@
-/* ragbasalt.h: the voting frame controller of a web press, for C (C11) and C++ (C++17) on x86-64. Version 3.
+/* ragbasalt.h: the voting frame controller of a web press, for C (C11) and C++ (C++17) on x86-64. Version 4.
  *
  * Link with the archive libragbasalt.a. What a caller needs to know is in this file: sections 1 to 10 tell what is
  * computed and in which form, then come limits, structs and calls. (In the repository `./ragbasalt library` builds the
@@ -26,13 +26,18 @@
  *            g' = (counter + F - 1) mod F, each cell voted in g' takes the value that more than half of the messages hold;
  *            where there is no such value, the node's own stays.
  * Setpoints: setpoint i is, after the vote, the pattern in the cell of actuator i.
- * Plane:     for each actuator it hands on the value that most nodes put out; of tied values, that whose lowest-numbered
- *            holder is lowest.
+ * Plane:     for each actuator it hands on the value that most nodes put out. Of tied values, which equally many nodes put
+ *            out and no other value more, it hands on the one that it last handed on, if that is among them; else that
+ *            whose lowest-numbered holder is lowest. At power-on the value last handed on is the initial pattern of the
+ *            actuator's cell.
  *
  * A node hears itself: its own message is one of the n. More than half is of all n: 2 of 3, 3 of 4, and both of 2. Votes
  * and plane compare bits: +0 and -0 differ, and a NaN equals a NaN of the same bits. Any memory may be computed on, since a
  * fault may leave anything: a counter of F or above works as counter mod F in Compute. Frames are also counted from
  * power-on: in frame t a node whose memory is right runs the plan's frame g = t mod F.
+ *
+ * A tie at the plane, as an example: of 4, 5, 5, 4, 6 from nodes 0 to 4 it hands on 5 if it last handed on 5, else 4; 4 also
+ * if it last handed on 6, which one node alone puts out.
  *
  * More words, said of a system from power-on:
  *
@@ -50,7 +55,8 @@
  *
  * While in every frame from power-on on more than half of the nodes work, the plane hands on the single controller's
  * setpoints, and every node whose good count is R is equal, whatever bad nodes do. With 1 or 2 nodes that is only while no
- * node is bad.
+ * node is bad. From the first frame on in which not more than half work nothing vouches for a value until the next power-on:
+ * on a tie a wrong one stays as a right one does.
  *
  * 3. Numbers and patterns
  *
@@ -217,10 +223,11 @@
  *
  * Refused, every word and byte behind the pointers stays as it was, but for the one number that a call gives (count, period,
  * agreement), which is then 0. Not refused, a call on a memory, a system or a run writes the words of the plan's n nodes and
- * C cells; all words past them stay. Power-on writes all words, zeros past the plan's.
+ * C cells and the first A of `handed`; all words past them stay. Power-on writes all words, zeros past the plan's.
  *
  * Any words may stand in a memory, a system or a run: a counter counts by its low 16 bits, and is written with those above
- * them 0; a good count above 65,535 counts as 65,535, which is above every R.
+ * them 0; a good count above 65,535 counts as 65,535, which is above every R; `handed` may hold any patterns, and the first A
+ * of them are read.
  *
  * 10. What a caller must keep to
  *
@@ -237,7 +244,7 @@
  *   setpoints can differ in their last bit or be 0, a plan against the rules can be accepted, and with an exception
  *   unmasked a call can end by a signal. ragbasalt_arithmetic_holds, the last function below, tells.
  * - There is stack. Measured on this archive, a call takes below its caller at most 25,300 bytes on a plan or on one node,
- *   30,000 on a system, 27,700 for ragbasalt_listing_start and 60,200 for ragbasalt_listing_next. Allow for some more.
+ *   31,300 on a system, 33,600 for ragbasalt_listing_start and 72,000 for ragbasalt_listing_next. Allow for some more.
  *
  * Everything else is answered: with these kept no content of a buffer, no length, no mask and no number makes a call trap or
  * run for ever.
@@ -248,9 +255,9 @@
  *
  * Time: every call makes the plan of its struct and tests it, R included. Measured, and not proved: ragbasalt_plan_check
  * takes 11,000 to 15,000 instructions on plans with an R of at most some 15, and 101,000 on one with R = 512. A node's call
- * takes up to 5,000 more, a vote of 32 cells without a majority 14,000. ragbasalt_system_frame takes 5,000 to 22,000 more on
+ * takes up to 5,000 more, a vote of 32 cells without a majority 14,000. ragbasalt_system_frame takes 6,000 to 23,000 more on
  * the plans of tests/listings with at most one bad node; with seven nodes and 64 tasks and 32 votes in one frame up to
- * 52,000, and up to 97,000 where four of the seven are bad.
+ * 53,000, and up to 98,000 where four of the seven are bad.
  */
 #ifndef RAGBASALT_H
 #define RAGBASALT_H
@@ -264,8 +271,8 @@ extern "C" {
 
 /* The version rises where a struct, a parameter, a layout or a meaning changes. A program built with the header of another version
  * does not link: it asks for a function that the archive does not have. */
-#define RAGBASALT_VERSION 3u
-uint64_t ragbasalt_version_3(void);
+#define RAGBASALT_VERSION 4u
+uint64_t ragbasalt_version_4(void);
 #if defined(__has_attribute)
 #if __has_attribute(retain)
 #define RAGBASALT_KEPT __attribute__((used, retain)) /* a linker that leaves out what nobody uses keeps it too */
@@ -275,7 +282,7 @@ uint64_t ragbasalt_version_3(void);
 #define RAGBASALT_KEPT __attribute__((used))
 #endif
 #if defined(RAGBASALT_KEPT)
-RAGBASALT_KEPT static uint64_t (*const ragbasalt_version_of_header)(void) = ragbasalt_version_3;
+RAGBASALT_KEPT static uint64_t (*const ragbasalt_version_of_header)(void) = ragbasalt_version_4;
 #undef RAGBASALT_KEPT
 #endif
 
@@ -378,7 +385,8 @@ typedef struct ragbasalt_memory {
 
 typedef struct ragbasalt_system {
     ragbasalt_memory nodes[RAGBASALT_MAX_NODES];
-    uint64_t good[RAGBASALT_MAX_NODES]; /* good counts */
+    uint64_t good[RAGBASALT_MAX_NODES];       /* good counts */
+    uint64_t handed[RAGBASALT_MAX_ACTUATORS]; /* patterns: what the plane last handed on for each actuator */
 } ragbasalt_system;
 
 /* A run between two lines. */
@@ -397,8 +405,8 @@ typedef struct ragbasalt_run {
 RAGBASALT_ASSERT(sizeof(ragbasalt_plan) == 8 * 446 && offsetof(ragbasalt_plan, initial) == 8 * 6 && offsetof(ragbasalt_plan, tasks) == 8 * 38);
 RAGBASALT_ASSERT(sizeof(ragbasalt_task) == 8 * 6 && offsetof(ragbasalt_plan, votes) == 8 * 422 && offsetof(ragbasalt_plan, actuator_cells) == 8 * 438);
 RAGBASALT_ASSERT(sizeof(ragbasalt_memory) == 8 * 33 && offsetof(ragbasalt_memory, cells) == 8);
-RAGBASALT_ASSERT(sizeof(ragbasalt_system) == 8 * 238 && offsetof(ragbasalt_system, good) == 8 * 231);
-RAGBASALT_ASSERT(sizeof(ragbasalt_run) == 8 * 273 && offsetof(ragbasalt_run, single) == 8 * 238 && offsetof(ragbasalt_run, period) == 8 * 271);
+RAGBASALT_ASSERT(sizeof(ragbasalt_system) == 8 * 246 && offsetof(ragbasalt_system, good) == 8 * 231 && offsetof(ragbasalt_system, handed) == 8 * 238);
+RAGBASALT_ASSERT(sizeof(ragbasalt_run) == 8 * 281 && offsetof(ragbasalt_run, single) == 8 * 246 && offsetof(ragbasalt_run, period) == 8 * 279);
 #undef RAGBASALT_ASSERT
 
 /* ---- plans (sections 4 to 6) */
@@ -429,7 +437,8 @@ size_t ragbasalt_faults_size(const ragbasalt_plan *plan);
 size_t ragbasalt_text_size(const ragbasalt_plan *plan);
 
 /* ---- one node (section 2). Any memory is taken, whatever a fault left in it. In a frame a board calls compute and message,
- * exchanges the messages, then calls vote and setpoints. */
+ * exchanges the messages, then calls vote and setpoints. The plane is not among these calls: what stands before the drives
+ * does it, and remembers what it last handed on. */
 
 /* Writes the memory at power-on: counter 0, the initial patterns, zeros past them. 7. */
 RAGBASALT_ANSWER ragbasalt_node_power_on(const ragbasalt_plan *plan, ragbasalt_memory *memory);
@@ -454,10 +463,12 @@ RAGBASALT_ANSWER ragbasalt_single_frame(const ragbasalt_plan *plan, ragbasalt_me
 
 /* ---- the whole system: n nodes and the plane */
 
-/* Writes the system at power-on: every node's memory at power-on, its good count R; zeros past the nodes. 7. */
+/* Writes the system at power-on: every node's memory at power-on, its good count R, and as `handed` the initial patterns of
+ * the actuators' cells; zeros past the nodes and the actuators. 7. */
 RAGBASALT_ANSWER ragbasalt_system_power_on(const ragbasalt_plan *plan, ragbasalt_system *system);
 
-/* A frame of all nodes: writes the system after it, and in `setpoints` what the plane hands on. The nodes of `mask` are bad,
+/* A frame of all nodes: writes the system after it, and what the plane hands on, in `setpoints` and in the system's `handed`,
+ * by which the next frame's plane remembers it; what stands in `setpoints` before is not read. The nodes of `mask` are bad,
  * and `faults`, ragbasalt_faults_size bytes also where no node is bad, has what they hold, send and put out (section 8). `sensors`: S patterns,
  * `setpoints`: A. Gives the frame's agreement in `agreement`. 7, 9, 8. */
 RAGBASALT_ANSWER ragbasalt_system_frame(const ragbasalt_plan *plan, ragbasalt_system *system, const uint64_t *sensors, size_t sensors_length, uint64_t mask,

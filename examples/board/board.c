@@ -2,8 +2,8 @@
  *
  * It reads plan.txt and run.txt in the current folder, as the program `run` does, and prints per frame the frame number (width 8), the setpoints that the
  * plane hands on (20 each) and the least agreement of the good nodes (4): the listing without its counts of working and equal nodes, which no single board can
- * know. The plane is the loop `plane` below; on a press the drives do it. A refusal goes to the error output, with exit status 1; where the arithmetic is not the
- * one that the library needs, nothing is computed, and the status is 2. */
+ * know. The plane is the loop `plane` below, with `handed`, which it remembers; on a press it stands before the drives. A refusal goes to the error output, with exit status 1;
+ * where the arithmetic is not the one that the library needs, nothing is computed, and the status is 2. */
 #include <inttypes.h>
 #include <stdio.h>
 #include <stdlib.h>
@@ -22,6 +22,9 @@ static struct {
     uint64_t setpoints[RAGBASALT_MAX_ACTUATORS];
     size_t agreement;
 } board[RAGBASALT_MAX_NODES];
+
+/* What the plane last handed on for each actuator. */
+static uint64_t handed[RAGBASALT_MAX_ACTUATORS];
 
 static void stop(const char *what, unsigned number, uint64_t line)
 {
@@ -89,12 +92,14 @@ static int run_line(FILE *run, uint64_t frame, uint64_t *mask, uint64_t *fill, u
     return 1;
 }
 
-/* Power-on of a good node. */
+/* Power-on of all nodes, and of the plane: "at power-on that is the actuator's cell's initial pattern". */
 static void power_on(void)
 {
-    size_t i;
+    size_t i, a;
     for (i = 0; i < nodes; i++)
         done("power_on", ragbasalt_node_power_on(&plan, &board[i].memory));
+    for (a = 0; a < actuators; a++)
+        handed[a] = plan.initial[plan.actuator_cells[a]];
 }
 
 /* A frame of a good node up to its broadcast. */
@@ -133,7 +138,7 @@ static void exchange(void)
             memcpy(board[to].mailbox + from * message_bytes, board[from].message, message_bytes);
 }
 
-/* The plane, no part of the library: the setpoint that most nodes put out; of tied ones, that of the lowest node. */
+/* The plane, no part of the library: the setpoint that most nodes put out. "Of tied values the remembered one wins; if it isn't among them", the one whose lowest holder is lowest. */
 static uint64_t plane(size_t a)
 {
     uint64_t value = 0;
@@ -142,11 +147,12 @@ static uint64_t plane(size_t a)
         size_t holders = 0;
         for (j = 0; j < nodes; j++)
             holders += board[j].setpoints[a] == board[i].setpoints[a];
-        if (holders > most) {
+        if (holders > most || (holders == most && board[i].setpoints[a] == handed[a])) {
             most = holders;
             value = board[i].setpoints[a];
         }
     }
+    handed[a] = value;
     return value;
 }
 

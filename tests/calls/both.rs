@@ -1,7 +1,8 @@
 //! Each exported call made on the library and on the reference, and compared: the answer, every
 //! buffer that was lent, and the guards around it.
 
-use super::calls;
+use super::calls::{self, system_of, HANDED_AT, SYSTEM_WORDS};
+use super::draw::line_faults;
 use super::lend::{Element, Lent, Number, Slice, GUARD};
 use super::library::*;
 use super::plan::Plan;
@@ -40,6 +41,8 @@ pub struct Totals {
     pub differing: u64,
     /// Frames of one node that is bad, of two with one bad, and of two that are good and apart.
     pub small: [u64; 3],
+    /// Setpoints that memory decided: in frames of a system, and in lines of a run.
+    pub decided: [u64; 2],
     /// Lists of histories by nodes and length; of length 4 and three nodes or more, by R.
     pub histories: [[u64; 4]; 5],
     pub periods: [u64; 3],
@@ -165,7 +168,7 @@ macro_rules! calls {
 
 #[rustfmt::skip]
 calls! {
-    version ragbasalt_version_3 [0] ();
+    version ragbasalt_version_4 [0] ();
     plan_read ragbasalt_plan_read [0, 1, 2, 3, 4, 5, 6] (slice text: u8, record plan);
     plan_write ragbasalt_plan_write [0, 7, 8] (plan plan, place text: u8, gives count);
     plan_check ragbasalt_plan_check [0, 7] (plan plan);
@@ -258,7 +261,46 @@ impl Both<'_> {
         Ok(())
     }
 
-    /// A frame of a system; those of one or two nodes are counted.
+    /// What the plane handed on last, after a frame that was not refused: past the actuators every
+    /// word is as before. The setpoints that memory decided are counted.
+    fn handed_on(
+        &mut self,
+        plan: &Plan,
+        before: &[u64],
+        after: &[u64],
+        mask: u64,
+        faults: &[u8],
+        counted: usize,
+    ) -> Compared<()> {
+        let past = HANDED_AT + plan.actuators..SYSTEM_WORDS;
+        if before[past.clone()] != after[past] {
+            return Err(String::from("a frame changed what is remembered past the actuators\n"));
+        }
+        let decided = system_of(plan, after).decided(plan, mask, faults);
+        self.totals.decided[counted] += decided as u64;
+        Ok(())
+    }
+
+    /// A line of a run.
+    pub fn next(
+        &mut self,
+        words: &Words,
+        run: &mut Record,
+        rest: &[u8],
+        line: &mut Vec<u8>,
+        count: &mut usize,
+    ) -> Compared<u64> {
+        let before = run.clone();
+        let answer = self.listing_next(words, run, rest, line, count)?;
+        if let (0, Some(plan), false) = (answer, &words.plan, rest.is_empty()) {
+            let (mask, faults) = line_faults(plan, rest);
+            self.handed_on(plan, &before, run, mask, &faults, 1)?;
+        }
+        Ok(answer)
+    }
+
+    /// A frame of a system: what was handed on is what is remembered. Frames of one or two nodes
+    /// are counted.
     #[allow(clippy::too_many_arguments)]
     pub fn frame(
         &mut self,
@@ -270,8 +312,13 @@ impl Both<'_> {
         place: &mut Vec<u64>,
         agreement: &mut usize,
     ) -> Compared<u64> {
+        let before = system.clone();
         let answer = self.system_frame(words, system, sensors, mask, faults, place, agreement)?;
         if let (0, Some(plan)) = (answer, &words.plan) {
+            self.handed_on(plan, &before, system, mask, faults, 0)?;
+            if system[HANDED_AT..HANDED_AT + plan.actuators] != place[..] {
+                return Err(String::from("what is remembered is not what was handed on\n"));
+            }
             match (plan.nodes, mask, *agreement) {
                 (1, 1, _) => self.totals.small[0] += 1,
                 (2, 1 | 2, _) => self.totals.small[1] += 1,

@@ -2,7 +2,7 @@
 
 use super::both::{Both, Compared, Record, Words};
 use super::calls::{
-    listing_line_length, GOOD_AT, MEMORY_WORDS, PLAN_WORDS, RUN_WORDS, SYSTEM_WORDS,
+    listing_line_length, GOOD_AT, HANDED_AT, MEMORY_WORDS, PLAN_WORDS, RUN_WORDS, SYSTEM_WORDS,
 };
 use super::damage;
 use super::draw::{accepted, damaged, plan_rows, stray, wrong_length, Draw};
@@ -217,14 +217,23 @@ fn make(both: &mut Both, draw: &Draw, plan: &Words, state: &mut State, call: Cal
         Single => both.single_frame(plan, memory, &draw.sensors(), &mut draw.setpoints())?,
         Start => both.system_power_on(plan, system)?,
         Frame => {
-            let sensors = draw.sensors();
+            let (sensors, mask) = (draw.sensors(), draw.mask());
             let faults = draw.faults(system, &sensors);
+            if r.one_in(2) {
+                draw.remember(system, &sensors, mask, &faults);
+            }
             let place = &mut draw.setpoints();
-            both.frame(plan, system, &sensors, draw.mask(), &faults, place, number)?
+            both.frame(plan, system, &sensors, mask, &faults, place, number)?
         }
         Working => both.system_working(plan, system, draw.mask(), number)?,
         Equal => both.system_equal(plan, system, memory, number)?,
-        Next => both.listing_next(plan, run, &draw.rest(), &mut draw.line(), number)?,
+        Next => {
+            let rest = draw.rest();
+            if r.one_in(2) {
+                draw.remember_line(run, &rest);
+            }
+            both.next(plan, run, &rest, &mut draw.line(), number)?
+        }
         Refusal => both.listing_refusal(draw.answer(), &mut draw.refusal(), number)?,
     };
     Ok(())
@@ -378,6 +387,11 @@ fn list(
     let mut system = right.system(&single);
     both.node_power_on(&words, &mut single)?;
     both.system_power_on(&words, &mut system)?;
+    let mut initial = right.setpoints();
+    both.node_setpoints(&words, &single, &mut initial)?;
+    if system[HANDED_AT..HANDED_AT + plan.actuators] != initial[..] {
+        return Err(String::from("at power-on others are remembered than the initial patterns\n"));
+    }
     let mut premise = Premise { plan: &plan, masks: Vec::new(), held: true };
     for (mask, sensors) in frames(r, &plan, values, masks, length(r, &plan)) {
         let faults = right.faults(&system, &sensors);
@@ -490,7 +504,7 @@ fn whole_listing(both: &mut Both, values: &Values, rows: &[Row]) -> Compared<()>
     }
     let plan = if r.one_in(3) { text(r, values, rows) } else { plan_text(rows) };
     let (accepted, _) = accepted(rows);
-    let masks = r.pick(&[Masks::Premise, Masks::Any, Masks::Stretches]);
+    let masks = r.pick(&[Masks::Premise, Masks::Any, Masks::Stretches, Masks::Halves]);
     let mut lines = run(r, &accepted, values, masks, r.between(0, 25));
     if r.one_in(2) && !lines.is_empty() {
         damage::run(r, &mut lines, accepted.nodes, accepted.sensors, r.below(18));
@@ -545,7 +559,7 @@ fn listed(
         }
         let length = listing_line_length(plan) + r.pick(&[0, 0, 1, r.below(90)]);
         let (mut line, mut count) = (vec![r.next() as u8; length], draw.number());
-        let answer = both.listing_next(&words, &mut run, rest, &mut line, &mut count)?;
+        let answer = both.next(&words, &mut run, rest, &mut line, &mut count)?;
         if answer != 0 || rest.is_empty() {
             return Ok(answer);
         }
@@ -579,7 +593,7 @@ fn refused_line(
         _ => damage::run(r, &mut rest, plan.nodes, plan.sensors, r.below(18)),
     }
     let before = given.clone();
-    let answer = both.listing_next(&words, &mut given, &rest, &mut line, &mut draw.number())?;
+    let answer = both.next(&words, &mut given, &rest, &mut line, &mut draw.number())?;
     match answer != 0 && before != given {
         true => Err(String::from("a refused line changed the run\n")),
         false => Ok(()),
@@ -598,19 +612,21 @@ fn boards(both: &mut Both, values: &Values, rows: &[Row]) -> Compared<()> {
     for memory in &mut nodes {
         both.node_power_on(&words, memory)?;
     }
-    let masks = r.pick(&[Masks::Premise, Masks::Stretches, Masks::Any]);
+    // What the plane of the boards handed on last: at power-on the initial patterns.
+    let mut handed: Vec<_> = plan.outputs.iter().map(|&cell| plan.initial[cell]).collect();
+    let masks = r.pick(&[Masks::Premise, Masks::Stretches, Masks::Any, Masks::Halves]);
     let list = frames(r, &plan, values, masks, usual_length(r, &plan));
     for (mask, sensors) in list.into_iter().take(8) {
         let faults = draw.faults(&system, &sensors);
         let (mut place, mut agreement) = (draw.setpoints(), draw.number());
         both.frame(&words, &mut system, &sensors, mask, &faults, &mut place, &mut agreement)?;
         let frame = Fault { plan: &plan, words: &words, mask, faults: &faults };
-        let (planes, agreements) = frame.by_nodes(both, &mut nodes, &sensors)?;
+        let agreements = frame.by_nodes(both, &mut nodes, &sensors, &mut handed)?;
         let memories: Vec<_> = (0..plan.nodes).map(|node| memory_in(&system, node)).collect();
         let least = agreements.iter().min().copied().unwrap_or(0);
-        if planes != place || memories != nodes || least != agreement {
+        if handed != place || memories != nodes || least != agreement {
             return Err(format!(
-                "the calls on nodes and the frame differ: {planes:?} and {place:?}, \
+                "the calls on nodes and the frame differ: {handed:?} and {place:?}, \
                  {nodes:?} and {memories:?}, {agreements:?} and {agreement}\n"
             ));
         }
@@ -638,14 +654,15 @@ impl Fault<'_> {
         &self.faults[node * length..(node + 1) * length]
     }
 
-    /// Compute, message, exchange, vote and setpoints of all nodes; gives what the plane hands on
-    /// and the good nodes' agreements.
+    /// Compute, message, exchange, vote and setpoints of all nodes, then the plane, with what it
+    /// handed on last; gives the good nodes' agreements.
     fn by_nodes(
         &self,
         both: &mut Both,
         nodes: &mut [Record],
         sensors: &[u64],
-    ) -> Compared<(Vec<u64>, Vec<usize>)> {
+        handed: &mut [u64],
+    ) -> Compared<Vec<usize>> {
         let length = message_length(self.plan);
         let mut messages = vec![vec![0; length]; nodes.len()];
         for (node, memory) in nodes.iter_mut().enumerate().filter(|(node, _)| self.good(*node)) {
@@ -669,10 +686,11 @@ impl Fault<'_> {
             agreements.push(agreement);
             both.node_setpoints(self.words, memory, &mut setpoints[node])?;
         }
-        let values =
-            |actuator: usize| setpoints.iter().map(|own| own[actuator]).collect::<Vec<_>>();
-        let planes = (0..self.plan.actuators).map(|actuator| plane(&values(actuator))).collect();
-        Ok((planes, agreements))
+        for (actuator, handed) in handed.iter_mut().enumerate() {
+            let values: Vec<_> = setpoints.iter().map(|own| own[actuator]).collect();
+            *handed = plane(&values, *handed);
+        }
+        Ok(agreements)
     }
 
     /// The memory and the setpoints of a bad node.

@@ -2,13 +2,13 @@
 //! mailboxes, masks and fault bytes, with or without something wrong.
 
 use super::both::{Record, Words};
-use super::calls::{self, listing_line_length, memory_of};
+use super::calls::{self, listing_line_length, memory_of, system_of};
+use super::calls::{ACTUATORS, GOOD_AT, HANDED_AT, MEMORY_WORDS, NODES};
 use super::calls::{CELLS, COUNTS, FRAMES, OUTPUTS_AT, PLAN_WORDS, TASKS_AT, VOTES_AT};
-use super::calls::{GOOD_AT, MEMORY_WORDS, NODES};
 use super::damage;
 use super::frame::{self, fault_length, message_length};
-use super::generate::{longest, plan_text, recovering, run, slow, Masks};
-use super::plan::{read, Plan, Row};
+use super::generate::{half, longest, plan_text, recovering, run, slow, Masks};
+use super::plan::{number, read, Plan, Row};
 use super::random::{strange, Random, Values};
 
 const MINUS: u64 = 1 << 63;
@@ -123,10 +123,10 @@ fn above_16_bits(r: &Random, low: u64) -> u64 {
     r.pick(&[low + 65_536, low | 1 << 32, low | MINUS, low | u64::MAX << 16, low | r.next() << 16])
 }
 
-/// Changes words that count for nothing: those past the plan's nodes and cells, and the bits of a
-/// counter above the low 16.
+/// Changes words that count for nothing: those past the plan's nodes, cells and actuators, and the
+/// bits of a counter above the low 16.
 pub fn stray(r: &Random, plan: &Plan, system: &mut [u64]) {
-    let (node, cell) = (r.below(NODES), r.below(CELLS));
+    let (node, cell, actuator) = (r.below(NODES), r.below(CELLS), r.below(ACTUATORS));
     if node < plan.nodes {
         let counter = &mut system[MEMORY_WORDS * node];
         *counter = above_16_bits(r, *counter % 65_536);
@@ -137,6 +137,15 @@ pub fn stray(r: &Random, plan: &Plan, system: &mut [u64]) {
     if node >= plan.nodes || cell >= plan.cells {
         system[MEMORY_WORDS * node + 1 + cell] = r.next();
     }
+    if actuator >= plan.actuators {
+        system[HANDED_AT + actuator] = r.next();
+    }
+}
+
+/// The mask and the fault bytes of a whole run line.
+pub fn line_faults(plan: &Plan, line: &[u8]) -> (u64, Vec<u8>) {
+    let column = |bytes: &[u8]| number(bytes).expect("a whole run line");
+    (column(&line[..4]), vec![column(&line[4..8]) as u8; fault_length(plan)])
 }
 
 pub fn wrong_length(r: &Random, right: usize) -> usize {
@@ -269,12 +278,13 @@ impl Draw<'_> {
         if self.is_wrong() {
             return r.pick(&[1 << nodes, all + 1 + r.below(200) as u64, 1 << 32, MINUS, u64::MAX]);
         }
-        match r.below(6) {
+        match r.below(8) {
             0 | 1 => 0,
             2 => r.next() & all,
             3 => all ^ 1 << r.below(nodes),
             4 => r.next() & r.next() & all,
-            _ => 1 << r.below(nodes),
+            5 => 1 << r.below(nodes),
+            _ => half(r, nodes),
         }
     }
 
@@ -315,7 +325,47 @@ impl Draw<'_> {
             words.extend(own);
         }
         words.extend((0..NODES).map(|node| self.good(node)));
+        words.extend((0..ACTUATORS).map(|actuator| self.handed(memory, actuator)));
         words
+    }
+
+    /// The word of what was handed on last: any pattern, often what the actuator's cell holds; past
+    /// the actuators anything.
+    fn handed(&self, memory: &[u64], actuator: usize) -> u64 {
+        match (self.r.below(3), self.plan.outputs.get(actuator)) {
+            (0, Some(&cell)) => memory[1 + cell],
+            (0, None) => self.r.pick(&[0, self.r.next()]),
+            _ => self.pattern(),
+        }
+    }
+
+    /// Lets the plane remember, for most actuators, what some node puts out in the frame of a
+    /// system that these make; a frame that is refused changes nothing here.
+    pub fn remember(&self, system: &mut [u64], sensors: &[u64], mask: u64, faults: &[u8]) {
+        let (mut after, mut place) = (system.to_vec(), vec![0; self.plan.actuators]);
+        let given = (&mut after, &mut place);
+        let plan = Some(self.plan);
+        if calls::system_frame(plan, given.0, sensors, mask, faults, given.1, &mut 0) == 0 {
+            self.remember_some(system, &after, mask, faults);
+        }
+    }
+
+    /// The same in the frame of a run's next line.
+    pub fn remember_line(&self, run: &mut [u64], rest: &[u8]) {
+        let (mut after, mut line) = (run.to_vec(), vec![0; listing_line_length(self.plan)]);
+        let answer = calls::listing_next(Some(self.plan), &mut after, rest, &mut line, &mut 0);
+        if answer == 0 && !rest.is_empty() {
+            let (mask, faults) = line_faults(self.plan, rest);
+            self.remember_some(run, &after, mask, &faults);
+        }
+    }
+
+    fn remember_some(&self, record: &mut [u64], after: &[u64], mask: u64, faults: &[u8]) {
+        let (r, plan, system) = (self.r, self.plan, system_of(self.plan, after));
+        for actuator in (0..plan.actuators).filter(|_| !r.one_in(4)) {
+            let values = system.put_out(plan, mask, faults, actuator);
+            record[HANDED_AT + actuator] = r.pick(&values[..plan.nodes]);
+        }
     }
 
     /// A run with any system and any memory of the single controller; frame numbers also just
@@ -335,7 +385,8 @@ impl Draw<'_> {
     /// What is left of a run file: nothing, or some lines, damaged or not.
     pub fn rest(&self) -> Vec<u8> {
         let (r, plan) = (self.r, self.plan);
-        let masks = r.pick(&[Masks::Quiet, Masks::Any, Masks::Extreme]);
+        let masks =
+            r.pick(&[Masks::Quiet, Masks::Any, Masks::Extreme, Masks::Halves, Masks::Halves]);
         let mut text = run(r, plan, self.values, masks, r.below(4));
         match r.below(4) {
             0 if !text.is_empty() => {
@@ -440,6 +491,7 @@ impl Draw<'_> {
 
     /// Fault bytes: any bytes; one byte; fields of a few patterns; or messages that are nearly
     /// those of a good node, another one for each receiver, and setpoints that are nearly its own.
+    /// In half of them the bad nodes put out one setpoint.
     pub fn faults(&self, system: &[u64], sensors: &[u64]) -> Vec<u8> {
         let (r, plan) = (self.r, self.plan);
         let mut faults = vec![0; fault_length(plan)];
@@ -452,8 +504,28 @@ impl Draw<'_> {
                 self.fault_fields(&mut faults, truth.as_ref());
             }
         }
+        if r.one_in(2) {
+            self.one_setpoint(&mut faults, system);
+        }
         faults.resize(self.length(fault_length(plan)), 0);
         faults
+    }
+
+    /// For some actuators all nodes that are bad put out one value, often what the plane handed on
+    /// last: where they are half of the nodes, they tie with the others.
+    fn one_setpoint(&self, faults: &mut [u8], system: &[u64]) {
+        let (r, plan) = (self.r, self.plan);
+        for actuator in 0..plan.actuators {
+            let value = match r.below(3) {
+                0 => system[HANDED_AT + actuator],
+                1 => self.pattern(),
+                _ => continue,
+            };
+            for bytes in faults.chunks_exact_mut(fault_length(plan) / plan.nodes) {
+                let at = bytes.len() - 8 * (plan.actuators - actuator);
+                bytes[at..at + 8].copy_from_slice(&value.to_be_bytes());
+            }
+        }
     }
 
     /// Some node's memory after it has computed.

@@ -181,6 +181,54 @@ static void node(const ragbasalt_plan *plan, const ragbasalt_memory *before, con
     HOLD(memcmp(&memory, after, sizeof memory) == 0);
 }
 
+/* What the plane hands on of n setpoints: "Of tied values the remembered one wins; if it isn't among them, the old rule decides". */
+static uint64_t plane(const uint64_t *put, size_t n, uint64_t remembered)
+{
+    size_t holders[RAGBASALT_MAX_NODES] = {0}, most = 0, first = 0, i, j;
+    for (i = 0; i < n; i++) {
+        for (j = 0; j < n; j++)
+            holders[i] += put[j] == put[i];
+        if (holders[i] > most) {
+            most = holders[i];
+            first = i;
+        }
+    }
+    for (i = 0; i < n; i++)
+        if (holders[i] == most && put[i] == remembered)
+            return remembered;
+    return put[first];
+}
+
+/* The setpoints of a frame by a plane of our own, from the memories after it; what it remembers then. Bad nodes put out `fill`. */
+static void planes(const ragbasalt_plan *plan, const ragbasalt_system *before, const ragbasalt_system *after, uint64_t mask, uint64_t fill, const uint64_t *setpoints)
+{
+    uint64_t put[RAGBASALT_MAX_NODES];
+    size_t n = (size_t)plan->nodes, a, i;
+    for (a = 0; a < plan->actuators; a++) {
+        for (i = 0; i < n; i++)
+            put[i] = mask >> i & 1 ? fill : after->nodes[i].cells[plan->actuator_cells[a]];
+        HOLD(setpoints[a] == plane(put, n, before->handed[a]) && after->handed[a] == setpoints[a]);
+    }
+    for (; a < RAGBASALT_MAX_ACTUATORS; a++)
+        HOLD(after->handed[a] == before->handed[a]);
+}
+
+/* The same frame of a plane that last handed on what bad nodes put out now: of the record and not of the lent place. Memories, counts and agreement are as they were. */
+static void remembered(const ragbasalt_plan *plan, const ragbasalt_system *before, const ragbasalt_system *after, const uint64_t *sensors, uint64_t mask, uint64_t fill, const uint8_t *faults,
+                       size_t agreement)
+{
+    static ragbasalt_system other, system;
+    uint64_t setpoints[RAGBASALT_MAX_ACTUATORS] = {0};
+    size_t a, again = 9;
+    other = *before;
+    for (a = 0; a < plan->actuators; a++)
+        other.handed[a] = fill;
+    system = other;
+    HOLD(ragbasalt_system_frame(plan, &system, sensors, (size_t)plan->sensors, mask, faults, ragbasalt_faults_size(plan), setpoints, (size_t)plan->actuators, &again) == RAGBASALT_DONE);
+    planes(plan, &other, &system, mask, fill, setpoints);
+    HOLD(memcmp(&system, after, offsetof(ragbasalt_system, handed)) == 0 && again == agreement);
+}
+
 /* The next line by the calls on a run, beside what the calls on the system gave; then calls that are refused. */
 static void next(const ragbasalt_plan *plan, ragbasalt_run *run, const uint8_t *rest, size_t length, const char *expected, size_t bytes)
 {
@@ -230,12 +278,12 @@ int main(void)
     static ragbasalt_run run;
     static uint8_t text[RAGBASALT_MAX_TEXT_BYTES + 1], lines[1 << 20], faults[RAGBASALT_MAX_FAULTS_BYTES];
     ragbasalt_memory single, before;
-    uint64_t sensors[RAGBASALT_MAX_SENSORS + 1] = {0}, setpoints[RAGBASALT_MAX_ACTUATORS], expected[RAGBASALT_MAX_ACTUATORS], mask;
+    uint64_t sensors[RAGBASALT_MAX_SENSORS + 1] = {0}, setpoints[RAGBASALT_MAX_ACTUATORS], expected[RAGBASALT_MAX_ACTUATORS], mask, fill;
     size_t length = contents("plan.txt", text, sizeof text), whole = contents("run.txt", lines, sizeof lines);
     size_t at, one, s, a, i, working, equal, agreement, count, period;
     char line[RAGBASALT_MAX_LINE_BYTES + 1], *end;
 
-    HOLD(ragbasalt_version_3() == RAGBASALT_VERSION && ragbasalt_arithmetic_holds() == 1);
+    HOLD(ragbasalt_version_4() == RAGBASALT_VERSION && ragbasalt_arithmetic_holds() == 1);
     HOLD(ragbasalt_plan_read(text, length, &plan) == RAGBASALT_DONE && whole < sizeof lines);
     if (failures)
         return 1;
@@ -255,12 +303,19 @@ int main(void)
     HOLD(ragbasalt_plan_period(&plan, &period) == RAGBASALT_DONE);
     for (i = 0; i < RAGBASALT_MAX_NODES; i++)
         HOLD(system.good[i] == (i < plan.nodes ? period : 0) && memcmp(&system.nodes[i], i < plan.nodes ? (const void *)&single : (const void *)&zero, sizeof single) == 0);
+    for (i = 0; i < RAGBASALT_MAX_ACTUATORS; i++)
+        HOLD(system.handed[i] == (i < a ? plan.initial[plan.actuator_cells[i]] : 0));
     HOLD(ragbasalt_listing_start(text, length, &listed, &run) == RAGBASALT_DONE && memcmp(&listed, &plan, sizeof plan) == 0);
     HOLD(memcmp(&run.system, &system, sizeof system) == 0 && memcmp(&run.single, &single, sizeof single) == 0 && run.period == period && run.frame == 0);
+    /* Any patterns past A stay as they are. */
+    for (i = a; i < RAGBASALT_MAX_ACTUATORS; i++)
+        system.handed[i] = run.system.handed[i] = UINT64_MAX - i;
 
     for (at = 0; at + one <= whole; at += one) {
         mask = column(lines + at, 4);
-        memset(faults, (int)column(lines + at + 4, 4), sizeof faults);
+        fill = column(lines + at + 4, 4);
+        memset(faults, (int)fill, sizeof faults);
+        fill *= UINT64_C(0x0101010101010101);
         for (i = 0; i < s; i++)
             sensors[i] = column(lines + at + 8 + 20 * i, 20);
         before_frame = system;
@@ -274,6 +329,8 @@ int main(void)
         HOLD(memcmp(&system, &before_frame, sizeof system) == 0);
         HOLD(ragbasalt_system_working(&plan, &system, mask, &working) == RAGBASALT_DONE);
         HOLD(ragbasalt_system_frame(&plan, &system, sensors, s, mask, faults, ragbasalt_faults_size(&plan), setpoints, a, &agreement) == RAGBASALT_DONE);
+        planes(&plan, &before_frame, &system, mask, fill, setpoints);
+        remembered(&plan, &before_frame, &system, sensors, mask, fill, faults, agreement);
         before = single;
         HOLD(ragbasalt_single_frame(&plan, &single, sensors, s, expected, a) == RAGBASALT_DONE);
         HOLD(ragbasalt_system_equal(&plan, &system, &single, &equal) == RAGBASALT_DONE);

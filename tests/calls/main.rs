@@ -49,6 +49,8 @@ const USAGE: &str = "usage:
 const WORKERS: u64 = 2;
 /// From this many calls on, each call and each of its answers has to come up.
 const ENOUGH: u64 = 20_000;
+/// And in so many calls memory has to decide a setpoint: 1,000 of them in 400,000.
+const DECIDED: u64 = 400;
 
 /// A difference, with its seed first.
 type Difference = (u64, String);
@@ -110,6 +112,7 @@ fn sum(all: &mut Totals, part: &Totals) {
     all.boards += part.boards;
     all.differing += part.differing;
     all.small.iter_mut().zip(part.small).for_each(|(all, part)| *all += part);
+    all.decided.iter_mut().zip(part.decided).for_each(|(all, part)| *all += part);
     all.listings.iter_mut().zip(part.listings).for_each(|(all, part)| *all += part);
     all.long.iter_mut().zip(part.long).for_each(|(all, part)| *all += part);
     all.periods.iter_mut().zip(part.periods).for_each(|(all, part)| *all += part);
@@ -121,10 +124,12 @@ fn sum(all: &mut Totals, part: &Totals) {
     }
 }
 
-/// Prints how often each call gave each answer; false if one of its answers never came up.
+/// Prints how often each call gave each answer; false if one of its answers never came up, or
+/// memory decided too few setpoints.
 fn print(totals: &Totals) -> bool {
     let mut complete = totals.inside > 0 && totals.outside > 0 && totals.recovered > 0;
     complete &= totals.differing > 0;
+    complete &= totals.decided.iter().all(|setpoints| DECIDED * setpoints >= totals.calls);
     complete &= totals.small.iter().chain(&totals.listings).all(|&seen| seen > 0);
     complete &= totals.histories.iter().flatten().chain(&totals.periods).all(|&lists| lists > 0);
     print!("{:<16}{:>8}", "call", "calls");
@@ -156,6 +161,8 @@ fn print(totals: &Totals) -> bool {
     );
     let [one, two, apart] = totals.small;
     println!("frames of one node that is bad {one}; of two, one bad {two}, good and apart {apart}");
+    let [frames, lines] = totals.decided;
+    println!("setpoints that memory decided, in frames {frames}, in lines {lines}");
     let [whole, line, plan] = totals.listings;
     println!("runs listed to the end {whole}, to a refused line {line}, of a refused plan {plan}");
     println!(
@@ -180,7 +187,7 @@ fn run(count: u64, first: u64, bare: bool) -> bool {
     }
     parts.iter().flatten().for_each(|part| sum(&mut totals, part));
     if !print(&totals) && totals.calls >= ENOUGH {
-        println!("some answer above never came up, or one that can't be");
+        println!("something above never came up, or too seldom, or can't be");
         return false;
     }
     println!("calls: {} equal", totals.calls);

@@ -1,11 +1,11 @@
 //! The calls that the library exports: what each answers and writes, on numbers, words and slices.
 //!
-//! What the calls do and when they are refused is document 01's, the agreement request 2026-02's
-//! and the histories 2026-05's; beside a refusal a number that a call gives is 0. Plan, memory,
-//! system and run as words are the library's own layout, which document 01 has not and
-//! include/ragbasalt.h tells: a plan is 446 words, a memory a counter and 32 patterns, a system 7
-//! memories and 7 good counts, a run a system, a memory, R and a frame number. Any words may stand
-//! in them.
+//! What the calls do and when they are refused is document 01's, the agreement request 2026-02's,
+//! the histories 2026-05's and what the plane remembers 2026-06's; beside a refusal a number that a
+//! call gives is 0. Plan, memory, system and run as words are the library's own layout, which
+//! document 01 has not and include/ragbasalt.h tells: a plan is 446 words, a memory a counter and
+//! 32 patterns, a system 7 memories, 7 good counts and the 8 patterns last handed on, a run a
+//! system, a memory, R and a frame number. Any words may stand in them.
 
 use super::frame::{fault_length, message_length, Memory, System};
 use super::generate::plan_text;
@@ -26,9 +26,10 @@ pub const OUTPUTS_AT: usize = VOTES_AT + FRAMES;
 pub const PLAN_WORDS: usize = OUTPUTS_AT + ACTUATORS;
 /// A counter, then patterns.
 pub const MEMORY_WORDS: usize = 1 + CELLS;
-/// Memories, then good counts.
+/// Memories, then good counts, then what was handed on last.
 pub const GOOD_AT: usize = NODES * MEMORY_WORDS;
-pub const SYSTEM_WORDS: usize = GOOD_AT + NODES;
+pub const HANDED_AT: usize = GOOD_AT + NODES;
+pub const SYSTEM_WORDS: usize = HANDED_AT + ACTUATORS;
 /// A system, the single controller's memory, R, the number of the next frame.
 pub const SINGLE_AT: usize = SYSTEM_WORDS;
 pub const PERIOD_AT: usize = SINGLE_AT + MEMORY_WORDS;
@@ -49,7 +50,7 @@ fn answer(number: u64, line: usize) -> u64 {
 }
 
 pub fn version() -> u64 {
-    3
+    4
 }
 
 // ---- a plan as rows and as words
@@ -309,7 +310,7 @@ pub fn single_frame(
     0
 }
 
-// ---- calls on the whole system, which is 238 words
+// ---- calls on the whole system, which is 246 words
 
 /// The words of a node's memory.
 fn node_words(node: usize) -> std::ops::Range<usize> {
@@ -327,14 +328,15 @@ fn mask_or_count(plan: &Plan, mask: u64, system: &[u64]) -> bool {
     mask >= 1 << plan.nodes || above
 }
 
-/// The record that words are. "What a .. system record holds past n nodes .. is neither read nor
-/// changed."
-fn system_of(plan: &Plan, words: &[u64]) -> System {
+/// The record that words are. "What a .. system record holds past n nodes .. or A actuators is
+/// neither read nor changed."
+pub fn system_of(plan: &Plan, words: &[u64]) -> System {
     let mut system = System::power_on(plan);
     for node in 0..plan.nodes {
         system.memories[node] = memory_of(plan, &words[node_words(node)]);
         system.counts[node] = good_count(words, node);
     }
+    system.handed.copy_from_slice(&words[HANDED_AT..HANDED_AT + plan.actuators]);
     system
 }
 
@@ -343,9 +345,10 @@ fn put_system(system: &System, words: &mut [u64]) {
         put_memory(memory, &mut words[node_words(node)]);
         words[GOOD_AT + node] = system.counts[node] as u64;
     }
+    words[HANDED_AT..HANDED_AT + system.handed.len()].copy_from_slice(&system.handed);
 }
 
-/// "n memories and n good counts, each R, with zeros past them."
+/// "n memories and n good counts, each R, with zeros past them"; zeros are past the actuators too.
 pub fn system_power_on(plan: Option<&Plan>, system: &mut [u64]) -> u64 {
     let Some(plan) = plan else { return answer(7, 0) };
     system.fill(0);
@@ -406,7 +409,7 @@ pub fn system_equal(plan: Option<&Plan>, system: &[u64], memory: &[u64], count: 
     0
 }
 
-// ---- a run, which is 273 words, and its listing line by line
+// ---- a run, which is 281 words, and its listing line by line
 
 /// What is printed for a frame: its number (8), two counts (4 each), A plane values (20 each), the
 /// agreement (4), line feed.

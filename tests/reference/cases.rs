@@ -17,9 +17,10 @@ pub struct Case {
 }
 
 /// The classes, and how many of each 100 seeds one after another they get.
-pub const CLASSES: [(&str, u64); 18] = [
+pub const CLASSES: [(&str, u64); 19] = [
     ("within the premise", 10),
     ("outside the premise", 13),
+    ("ties at the plane", 6),
     ("slow recovery", 3),
     ("longest plan", 2),
     ("long run", 1),
@@ -29,9 +30,9 @@ pub const CLASSES: [(&str, u64); 18] = [
     ("plan length", 2),
     ("plan form", 9),
     ("plan header", 7),
-    ("plan order", 12),
-    ("plan rules", 15),
-    ("plan, several damages", 9),
+    ("plan order", 10),
+    ("plan rules", 12),
+    ("plan, several damages", 8),
     ("run damaged", 9),
     ("plan and run damaged", 1),
     ("plan.txt missing", 1),
@@ -104,12 +105,15 @@ fn limit_case(r: &Random, class: &'static str) -> Case {
 /// A plan that is whole, and its run.
 fn whole_case(r: &Random, class: &'static str) -> Case {
     let values = &Values::new(r);
-    let rows = match class {
+    let mut rows = match class {
         "slow recovery" => slow(r, values),
         "longest plan" => longest(r, values),
         "no recovery" => never(r, values),
         _ => recovering(r, values),
     };
+    if class == "ties at the plane" {
+        rows[0][1] = r.pick(&[2, 4, 6]);
+    }
     let count = match class {
         "long run" => r.between(1500, 4000),
         "empty run" => 0,
@@ -119,6 +123,7 @@ fn whole_case(r: &Random, class: &'static str) -> Case {
     let plan = plan_text(&rows);
     let run = match (class, read(&plan)) {
         ("outside the premise", Ok(plan)) => run(r, &plan, values, r.pick(&OUTSIDE), count),
+        ("ties at the plane", Ok(plan)) => run(r, &plan, values, Masks::Halves, count),
         ("within the premise" | "slow recovery", Ok(plan)) => {
             // Long enough for nodes to recover, unless R is large.
             let count = count.max((3 * plan.period).min(200));
@@ -253,7 +258,7 @@ pub fn blocks_case(seed: u64) -> Case {
     };
     let masks = match class {
         "recoveries, R above 60" => Masks::Seldom,
-        _ => r.pick(&[Masks::Premise, Masks::Any, Masks::Stretches]),
+        _ => r.pick(&[Masks::Premise, Masks::Any, Masks::Stretches, Masks::Halves]),
     };
     let damaged = class.starts_with("damaged");
     let mut run = run(r, &plan, values, masks, count.max(line + usize::from(damaged)));

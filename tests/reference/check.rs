@@ -15,5 +15,5 @@ pub fn text(plan_text: &[u8]) -> Listing {
         Err(refusal) => push_refusal(&mut bytes, *refusal),
     }
     let lines = usize::from(plan.is_ok());
-    Listing { bytes, lines, accepted: plan.is_ok(), refusal: plan.err() }
+    Listing { bytes, lines, accepted: plan.is_ok(), refusal: plan.err(), ..Listing::default() }
 }

@@ -32,7 +32,10 @@ pub struct Kind {
     marks: &'static [&'static str],
     mark: fn(&Case, &Listing) -> Option<&'static str>,
     lines: &'static str,
-    /// From this many cases on, each class, refusal and mark has to come up.
+    /// How many setpoints memory has to decide, and how many of these in the first line of a block
+    /// that is not the first one; not counted where it is 0.
+    decided: [u64; 2],
+    /// From this many cases on, each class, refusal and mark has to come up, and so many setpoints.
     enough: u64,
 }
 
@@ -46,6 +49,7 @@ pub static RUN: Kind = Kind {
     marks: &[],
     mark: |_, _| None,
     lines: "frames compared",
+    decided: [1000, 0],
     enough: 3000,
 };
 
@@ -59,6 +63,7 @@ pub static HISTORIES: Kind = Kind {
     marks: &[],
     mark: |_, _| None,
     lines: "histories compared",
+    decided: [0, 0],
     enough: 1000,
 };
 
@@ -72,6 +77,7 @@ pub static CHECK: Kind = Kind {
     marks: &[],
     mark: |_, _| None,
     lines: "periods compared",
+    decided: [0, 0],
     enough: 1000,
 };
 
@@ -85,6 +91,7 @@ pub static BLOCKS: Kind = Kind {
     marks: &BLOCKS_MARKS,
     mark: blocks_mark,
     lines: "frames compared",
+    decided: [1000, 30],
     enough: 400,
 };
 
@@ -134,6 +141,7 @@ struct Totals {
     cases: u64,
     accepted: u64,
     lines: u64,
+    decided: [u64; 2],
 }
 
 impl Totals {
@@ -148,9 +156,13 @@ impl Totals {
         self.cases += 1;
         self.accepted += u64::from(listing.accepted);
         self.lines += listing.lines as u64;
+        let first_line = |&&frame: &&usize| frame > 0 && frame % BLOCK == 0;
+        self.decided[0] += listing.decided.len() as u64;
+        self.decided[1] += listing.decided.iter().filter(first_line).count() as u64;
     }
 
-    /// Prints the table; false if some class, refusal or mark never came up.
+    /// Prints the table; false if some class, refusal or mark never came up, or memory decided too
+    /// few setpoints.
     fn print(&self, kind: &Kind) -> bool {
         let mut complete = true;
         for (class, _) in kind.classes.iter().copied().flatten() {
@@ -170,6 +182,13 @@ impl Totals {
         }
         println!("{:<32}{:>10}", "accepted plans", self.accepted);
         println!("{:<32}{:>10}", kind.lines, self.lines);
+        let decided = ["setpoints that memory decided", "of these, first line of a block"];
+        for ((name, least), setpoints) in decided.iter().zip(kind.decided).zip(self.decided) {
+            complete &= setpoints >= least;
+            if least > 0 {
+                println!("{name:<32}{setpoints:>10}");
+            }
+        }
         complete
     }
 }
@@ -272,7 +291,7 @@ impl Comparer {
         let totals = self.totals.into_inner().unwrap();
         let complete = totals.print(self.kind) || self.end - self.first < self.kind.enough;
         if !complete {
-            println!("something above never came up");
+            println!("something above never came up, or too seldom");
             return false;
         }
         println!("{} cases equal", totals.cases);

@@ -180,34 +180,55 @@ fn majority<'a, const WIDTH: usize>(
     (None, 0)
 }
 
-/// "The value that most nodes put out; of tied values, the one whose lowest-numbered holder is
-/// lowest." `values` are the nodes' setpoints for one actuator, node 0 first.
-pub fn plane(values: &[u64]) -> u64 {
+/// How many nodes put out a value, compared as bits.
+pub fn holders(values: &[u64], value: u64) -> usize {
+    values.iter().filter(|&&other| other == value).count()
+}
+
+/// The old rule: "the value that most nodes put out; of tied values, the one whose lowest-numbered
+/// holder is lowest", and how many hold it. `values` are the nodes' setpoints for one actuator,
+/// node 0 first.
+pub fn most_held(values: &[u64]) -> (usize, u64) {
     let mut best = (0, 0);
     for &value in values {
-        let holders = values.iter().filter(|&&other| other == value).count();
+        let holders = holders(values, value);
         if holders > best.0 {
             best = (holders, value);
         }
     }
-    best.1
+    best
 }
 
-/// "n memories and n good counts", with places for the messages and one mailbox.
+/// "Of tied values the remembered one wins; if it isn't among them, the old rule decides."
+pub fn plane(values: &[u64], remembered: u64) -> u64 {
+    let (most, value) = most_held(values);
+    if holders(values, remembered) == most {
+        remembered
+    } else {
+        value
+    }
+}
+
+/// "n memories and n good counts", and "the value it last handed on for each actuator", which the
+/// plane remembers: "the memory belongs to the system record". With places for the messages and one
+/// mailbox.
 pub struct System {
     pub memories: Vec<Memory>,
     pub counts: Vec<usize>,
+    pub handed: Vec<u64>,
     messages: Vec<u8>,
     mailbox: Vec<u8>,
 }
 
 impl System {
-    /// "The system record begins at power-on: n memories and n good counts, each R."
+    /// "The system record begins at power-on: n memories and n good counts, each R." The value
+    /// last handed on "at power-on .. is the actuator's cell's initial pattern".
     pub fn power_on(plan: &Plan) -> System {
         let mailbox = vec![0; plan.nodes * message_length(plan)];
         System {
             memories: vec![Memory::power_on(plan); plan.nodes],
             counts: vec![plan.period; plan.nodes],
+            handed: plan.outputs.iter().map(|&cell| plan.initial[cell]).collect(),
             messages: mailbox.clone(),
             mailbox,
         }
@@ -264,19 +285,43 @@ impl System {
         agreements.into_iter().min().unwrap_or(0)
     }
 
-    fn plane(&self, plan: &Plan, mask: u64, faults: &[u8], place: &mut [u64]) {
-        let mut values = [0; MOST_NODES];
+    fn plane(&mut self, plan: &Plan, mask: u64, faults: &[u8], place: &mut [u64]) {
         for (actuator, handed_on) in place.iter_mut().enumerate() {
-            for (node, value) in values[..plan.nodes].iter_mut().enumerate() {
-                *value = if good(mask, node) {
-                    self.memories[node].setpoint(plan, actuator)
-                } else {
-                    let end = (node + 1) * node_fault_length(plan);
-                    u64::from_be_bytes(bytes_at(faults, end - 8 * (plan.actuators - actuator)))
-                };
-            }
-            *handed_on = plane(&values[..plan.nodes]);
+            let values = self.put_out(plan, mask, faults, actuator);
+            *handed_on = plane(&values[..plan.nodes], self.handed[actuator]);
+            self.handed[actuator] = *handed_on;
         }
+    }
+
+    /// What the nodes put out for an actuator in the frame that left this record, node 0 first; 0
+    /// past the nodes.
+    pub fn put_out(
+        &self,
+        plan: &Plan,
+        mask: u64,
+        faults: &[u8],
+        actuator: usize,
+    ) -> [u64; MOST_NODES] {
+        let mut values = [0; MOST_NODES];
+        for (node, value) in values[..plan.nodes].iter_mut().enumerate() {
+            *value = if good(mask, node) {
+                self.memories[node].setpoint(plan, actuator)
+            } else {
+                let end = (node + 1) * node_fault_length(plan);
+                u64::from_be_bytes(bytes_at(faults, end - 8 * (plan.actuators - actuator)))
+            };
+        }
+        values
+    }
+
+    /// How many setpoints memory decided in the frame that left this record: the old rule hands on
+    /// another value.
+    pub fn decided(&self, plan: &Plan, mask: u64, faults: &[u8]) -> usize {
+        let decided = |&actuator: &usize| {
+            let values = self.put_out(plan, mask, faults, actuator);
+            most_held(&values[..plan.nodes]).1 != self.handed[actuator]
+        };
+        (0..plan.actuators).filter(decided).count()
     }
 
     /// "A bad node's count becomes 0; a good one's rises by 1 up to R. A node is working in a

@@ -246,9 +246,22 @@ pub enum Masks {
     /// Fewer than half of the nodes are bad for one to three frames, then none for R frames or a
     /// few more: within the premise, and each node that was bad works again.
     Seldom,
+    /// Half of the nodes are bad in most frames: the same, the other half, or another one. Of 2, 4
+    /// and 6 nodes the bad half ties with the good one at the plane.
+    Halves,
 }
 
-pub const OUTSIDE: [Masks; 4] = [Masks::Any, Masks::Extreme, Masks::Stretches, Masks::Stretches];
+pub const OUTSIDE: [Masks; 5] =
+    [Masks::Any, Masks::Extreme, Masks::Stretches, Masks::Stretches, Masks::Halves];
+
+/// Any half of the nodes, rounded down.
+pub fn half(r: &Random, nodes: usize) -> u64 {
+    let mut mask = 0u64;
+    while (mask.count_ones() as usize) < nodes / 2 {
+        mask |= 1 << r.below(nodes);
+    }
+    mask
+}
 
 /// Makes run lines one by one; `counts` are the nodes' good counts.
 struct Lines<'a> {
@@ -269,7 +282,8 @@ impl<'a> Lines<'a> {
         let sensors = (0..plan.sensors).map(|_| values.any(r)).collect();
         let counts = vec![plan.period; plan.nodes];
         let stays = if matches!(masks, Masks::Seldom) { r.below(4) } else { 0 };
-        Lines { plan, values, masks, fill, mask: 0, stays, counts, sensors }
+        let mask = if matches!(masks, Masks::Halves) { half(r, plan.nodes) } else { 0 };
+        Lines { plan, values, masks, fill, mask, stays, counts, sensors }
     }
 
     fn any_mask(&self, r: &Random) -> u64 {
@@ -291,6 +305,13 @@ impl<'a> Lines<'a> {
             Masks::Stretches if r.one_in(4) => r.pick(&[0, 0, self.any_mask(r)]),
             Masks::Stretches => self.mask,
             Masks::Seldom => self.seldom_mask(r),
+            Masks::Halves => match r.below(8) {
+                0 => 0,
+                1 => self.any_mask(r),
+                2 | 3 => half(r, self.plan.nodes),
+                4 | 5 => all ^ self.mask,
+                _ => self.mask,
+            },
         };
         if matches!(self.masks, Masks::Premise) {
             self.keep_premise();

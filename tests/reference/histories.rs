@@ -77,5 +77,5 @@ pub fn text(plan_text: &[u8]) -> Listing {
         push_refusal(&mut bytes, refusal);
     }
     let lines = list.map_or(0, |list| list.len() / PRINTED);
-    Listing { bytes, lines, accepted: plan.is_ok(), refusal: list.err() }
+    Listing { bytes, lines, accepted: plan.is_ok(), refusal: list.err(), ..Listing::default() }
 }

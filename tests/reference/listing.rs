@@ -6,12 +6,15 @@ use super::plan::{self, number, Plan, Refusal};
 /// "10: ... or line 100,001."
 pub const MOST_LINES: usize = 100_000;
 
+#[derive(Default)]
 pub struct Listing {
     pub bytes: Vec<u8>,
     /// The lines that are no refusal.
     pub lines: usize,
     pub accepted: bool,
     pub refusal: Option<Refusal>,
+    /// The frames of the setpoints that memory decided.
+    pub decided: Vec<usize>,
 }
 
 /// Writes a number right-justified in a column.
@@ -60,6 +63,7 @@ pub struct Run<'a> {
     sensors: Vec<u64>,
     faults: Vec<u8>,
     place: Vec<u64>,
+    decided: Vec<usize>,
 }
 
 impl<'a> Run<'a> {
@@ -76,6 +80,7 @@ impl<'a> Run<'a> {
             sensors: vec![0; plan.sensors],
             faults: vec![0; fault_length(plan)],
             place: vec![0; plan.actuators],
+            decided: Vec::new(),
         }
     }
 
@@ -90,6 +95,8 @@ impl<'a> Run<'a> {
         }
         let (working, agreement) =
             self.system.frame(self.plan, &self.sensors, mask, &self.faults, &mut self.place);
+        let decided = self.system.decided(self.plan, mask, &self.faults);
+        self.decided.extend(std::iter::repeat_n(number, decided));
         self.single.compute(self.plan, &self.sensors);
         let equal = self.system.memories.iter().filter(|&memory| *memory == self.single).count();
         push_number(out, number as u64, 8);
@@ -102,31 +109,30 @@ impl<'a> Run<'a> {
     }
 }
 
-/// Prints the frames of a run up to its end or its first refused line.
-fn run(plan: &Plan, text: &[u8], out: &mut Vec<u8>) -> (usize, Option<Refusal>) {
+/// The listing of a run up to its end or its first refused line.
+fn run(plan: &Plan, text: &[u8]) -> Listing {
     let length = run_line_length(plan);
     let mut run = Run::power_on(plan);
-    let mut frames = 0;
+    let mut listing = Listing { accepted: true, ..Listing::default() };
     for line in text.chunks(length) {
-        let whole = line.len() == length && frames < MOST_LINES;
-        if !whole || run.frame(line, frames, out).is_none() {
-            return (frames, Some(Refusal { number: 10, line: frames + 1 }));
+        let whole = line.len() == length && listing.lines < MOST_LINES;
+        if !whole || run.frame(line, listing.lines, &mut listing.bytes).is_none() {
+            listing.refusal = Some(Refusal { number: 10, line: listing.lines + 1 });
+            break;
         }
-        frames += 1;
+        listing.lines += 1;
     }
-    (frames, None)
+    Listing { decided: run.decided, ..listing }
 }
 
 /// "A refusal prints number (4) and line (8) and ends the listing."
 pub fn listing(plan_text: &[u8], run_text: &[u8]) -> Listing {
-    let mut bytes = Vec::new();
-    let plan = plan::read(plan_text);
-    let (lines, refusal) = match &plan {
-        Ok(plan) => run(plan, run_text, &mut bytes),
-        Err(refusal) => (0, Some(*refusal)),
+    let mut listing = match plan::read(plan_text) {
+        Ok(plan) => run(&plan, run_text),
+        Err(refusal) => Listing { refusal: Some(refusal), ..Listing::default() },
     };
-    if let Some(refusal) = refusal {
-        push_refusal(&mut bytes, refusal);
+    if let Some(refusal) = listing.refusal {
+        push_refusal(&mut listing.bytes, refusal);
     }
-    Listing { bytes, lines, accepted: plan.is_ok(), refusal }
+    listing
 }

@@ -1,5 +1,5 @@
 //! Document 01's short table and plan K, cams, agreements, presses of one and two nodes, fault
-//! histories, and refusals worked out by hand, and the premise of demand 3.
+//! histories, ties at the plane, and refusals worked out by hand, and the premise of demand 3.
 
 use std::collections::{BTreeMap, BTreeSet};
 
@@ -7,7 +7,8 @@ use super::calls;
 use super::cases::{case, class_of, histories_case, CLASSES, HISTORIES_CLASSES};
 use super::check;
 use super::frame::{
-    cam, cam_entry, fault_length, limit, message_length, plane, task_result, Memory, System,
+    cam, cam_entry, fault_length, holders, limit, message_length, most_held, plane, task_result,
+    Memory, System,
 };
 use super::generate::plan_text;
 use super::histories;
@@ -39,6 +40,8 @@ const CUTTER: [Row; 6] = [
 
 const NAN: u64 = 0x7FF8_0000_0000_0000;
 const MINUS: u64 = 1 << 63;
+/// What a bad node with all bytes 255 puts out.
+const ONES: u64 = u64::MAX;
 
 fn k() -> Plan {
     read(&plan_text(&K)).unwrap()
@@ -129,12 +132,53 @@ fn row_9_half_of_four_is_no_majority() {
     assert_eq!(memory.cells, [7, NAN]);
 }
 
+/// "Plane cases 10 and 11 of document 01 now hold for a remembered 3."
 #[test]
 fn rows_10_and_11_plane() {
-    assert_eq!(plane(&[7, 8, 9]), 7);
-    assert_eq!(plane(&[4, 5, 5, 4, 6]), 4);
-    assert_eq!(plane(&[4, 5, 5, 6, 5]), 5);
-    assert_eq!(plane(&[0, MINUS, MINUS]), MINUS);
+    assert_eq!(plane(&[7, 8, 9], 3), 7);
+    assert_eq!(plane(&[4, 5, 5, 4, 6], 3), 4);
+    assert_eq!(plane(&[4, 5, 5, 6, 5], 3), 5);
+    assert_eq!(plane(&[0, MINUS, MINUS], 3), MINUS);
+}
+
+/// "Of tied values the remembered one wins; if it isn't among them, the old rule decides." One that
+/// fewer nodes put out is not among the tied ones.
+#[test]
+fn plane_that_remembers() {
+    assert_eq!([7, 8, 9, 10].map(|handed| plane(&[7, 8, 9], handed)), [7, 8, 9, 7]);
+    assert_eq!([4, 5, 6].map(|handed| plane(&[4, 5, 5, 4, 6], handed)), [4, 5, 4]);
+    assert_eq!([4, 5, 6].map(|handed| plane(&[4, 5, 5, 6, 5], handed)), [5; 3]);
+    assert_eq!([1, 2, 3].map(|handed| plane(&[1, 1, 2, 2], handed)), [1, 2, 1]);
+    assert_eq!([1, 2, 3].map(|handed| plane(&[3, 1, 2, 2, 1, 3], handed)), [1, 2, 3]);
+    assert_eq!([1, 2, 3].map(|handed| plane(&[1, 2, 3, 2, 1], handed)), [1, 2, 1]);
+    // By bits: +0 is not -0, and a NaN is itself and no other.
+    assert_eq!([0, MINUS].map(|handed| plane(&[0, 0, MINUS, MINUS], handed)), [0, MINUS]);
+    assert_eq!([0, MINUS].map(|handed| plane(&[7, 7, MINUS, MINUS], handed)), [7, MINUS]);
+    assert_eq!([NAN, NAN | 1].map(|handed| plane(&[7, 7, NAN, NAN], handed)), [NAN, 7]);
+}
+
+/// All lists of up to six nodes that put out three values, with each of these remembered or another
+/// one: what is handed on has the most holders, and where it is not the remembered value, more than
+/// that one; then it is the old rule's.
+#[test]
+fn planes_of_all_small_lists() {
+    let (mut kept, mut given_up) = (0, 0);
+    for (nodes, list) in (1..=6).flat_map(|nodes| (0..3u64.pow(nodes)).map(move |l| (nodes, l))) {
+        let values: Vec<_> = (0..nodes).map(|node| list / 3u64.pow(node) % 3).collect();
+        let most = (0..3).map(|value| holders(&values, value)).max().unwrap();
+        for remembered in 0..=3 {
+            let value = plane(&values, remembered);
+            assert_eq!(holders(&values, value), most);
+            if value != remembered {
+                assert!(holders(&values, remembered) < most);
+                let lowest = values.iter().find(|&&value| holders(&values, value) == most);
+                assert_eq!((Some(&value), value), (lowest, most_held(&values).1));
+            }
+            kept += usize::from(value == remembered && value != most_held(&values).1);
+            given_up += usize::from(value != remembered && holders(&values, remembered) > 0);
+        }
+    }
+    assert!(kept > 100 && given_up > 100);
 }
 
 #[test]
@@ -472,12 +516,20 @@ fn a_vote_of_two_bins() {
     assert_eq!(voted(&k_of(2, true), 1, &bins), (1, [5, 90], 0));
 }
 
-/// "Of tied values, the one whose lowest-numbered holder is lowest": of two that differ node 0's.
+/// Of one its value, whatever is remembered; of two that differ the remembered one if either puts
+/// it out, else node 0's.
 #[test]
 fn plane_of_one_and_two_nodes() {
-    assert_eq!([7, MINUS, NAN].map(|value| plane(&[value])), [7, MINUS, NAN]);
-    assert_eq!((plane(&[7, 8]), plane(&[8, 7]), plane(&[7, 7])), (7, 8, 7));
-    assert_eq!((plane(&[0, MINUS]), plane(&[MINUS, 0]), plane(&[NAN, 7])), (0, MINUS, NAN));
+    for handed in [7, 0, MINUS, NAN] {
+        assert_eq!([7, 0, MINUS, NAN].map(|value| plane(&[value], handed)), [7, 0, MINUS, NAN]);
+        assert_eq!([7, 0, MINUS, NAN].map(|value| plane(&[value; 2], handed)), [7, 0, MINUS, NAN]);
+    }
+    assert_eq!([3, 7, 8].map(|handed| plane(&[7, 8], handed)), [7, 7, 8]);
+    assert_eq!([3, 7, 8].map(|handed| plane(&[8, 7], handed)), [8, 7, 8]);
+    assert_eq!([3, 0, MINUS].map(|handed| plane(&[0, MINUS], handed)), [0, 0, MINUS]);
+    assert_eq!([3, 0, MINUS].map(|handed| plane(&[MINUS, 0], handed)), [MINUS, 0, MINUS]);
+    assert_eq!([3, 0, MINUS].map(|handed| plane(&[MINUS, 7], handed)), [MINUS; 3]);
+    assert_eq!([3, 7, NAN].map(|handed| plane(&[NAN, 7], handed)), [NAN, 7, NAN]);
 }
 
 /// What a bad node of K does in a frame: its memory after it, the message it sends to all, its
@@ -516,8 +568,8 @@ fn a_frame_of_one_bad_node() {
     assert_eq!(system.counts, [1]);
 }
 
-/// One of two nodes is bad in frame 1, after a good frame 0. The good one has counter 0, cells 1
-/// and 1 and sends cell 1; the bad one puts out 6.
+/// One of two nodes is bad in frame 1, after a good frame 0 that handed on 0. The good one has
+/// counter 0, cells 1 and 1 and sends cell 1; the bad one puts out 6.
 #[test]
 fn a_frame_of_two_nodes_with_a_bad_one() {
     let plan = k_of(2, false);
@@ -535,12 +587,17 @@ fn a_frame_of_two_nodes_with_a_bad_one() {
         }
         given
     };
-    // Node 0 is bad: its value; no cell has more than half, and no counter.
+    // Node 0 is bad: its value, as nobody puts out 0; no cell has more than half, and no counter.
     assert_eq!(frame(1, (0, [0, two]), 6), (6, 1, 0));
     assert_eq!(frame(1, (1, [0, one]), 6), (6, 1, 0));
     // Node 1 is bad: node 0's own.
     assert_eq!(frame(2, (0, [0, two]), 6), (one, 1, 0));
     assert_eq!(frame(2, (1, [0, one]), 6), (one, 1, 0));
+    // The bad one puts out the 0 that was handed on before: it stays; -0 is another value.
+    assert_eq!(frame(1, (0, [0, two]), 0), (0, 1, 0));
+    assert_eq!(frame(2, (0, [0, two]), 0), (0, 1, 0));
+    assert_eq!(frame(2, (0, [0, one]), 0), (0, 1, 2));
+    assert_eq!(frame(2, (0, [0, two]), MINUS), (one, 1, 0));
     // Its bytes agree; the cell that is not voted may differ.
     assert_eq!(frame(1, (0, [0, one]), 6), (6, 1, 2));
     assert_eq!(frame(2, (0, [two, one]), 6), (one, 1, 2));
@@ -550,11 +607,176 @@ fn a_frame_of_two_nodes_with_a_bad_one() {
     assert_eq!(frame(3, (0, [0, one]), 6), (6, 0, 0));
 }
 
+/// Four nodes and two cells with these initial patterns: cell 0 is taken from the sensor, cell 1
+/// stays. Both are voted in the one frame, and R is 1. Actuator 0 has cell 1, actuator 1 cell 0.
+fn crossed(initial: [u64; 2]) -> Plan {
+    let rows = [
+        [0, 4, 1, 2, 1, 2],
+        [1, 0, 0, 0, initial[0], 0],
+        [1, 1, 0, 0, initial[1], 0],
+        [10, 0, 0, 0, 0, 0],
+        [20, 0, 0, 0, 0, 0],
+        [20, 0, 1, 0, 0, 0],
+        [30, 0, 1, 0, 0, 0],
+        [30, 1, 0, 0, 0, 0],
+    ];
+    read(&plan_text(&rows)).unwrap()
+}
+
+/// What is handed on in one frame after another, each with its sensor, mask and fill; what is
+/// remembered is the same.
+fn handed_on<const FRAMES: usize>(
+    plan: &Plan,
+    frames: [(u64, u64, u8); FRAMES],
+) -> [Vec<u64>; FRAMES] {
+    let mut system = System::power_on(plan);
+    frames.map(|(sensor, mask, fill)| {
+        let (faults, mut place) = (vec![fill; fault_length(plan)], vec![9; plan.actuators]);
+        system.frame(plan, &[sensor], mask, &faults, &mut place);
+        assert_eq!(system.handed, place);
+        place
+    })
+}
+
+/// "At power-on that is the actuator's cell's initial pattern". Frame 0 is tied: the bad nodes put
+/// out 255s or 0, the good ones 7 for actuator 0 and the sensor's 5 for actuator 1.
+#[test]
+fn frame_0_tied() {
+    let frame = |initial: [u64; 2], mask: u64, fill: u8| {
+        assert_eq!(System::power_on(&crossed(initial)).handed, [initial[1], initial[0]]);
+        handed_on(&crossed(initial), [(5, mask, fill)]).concat()
+    };
+    // The good ones' 7 was the initial pattern; nobody puts out 3.
+    assert_eq!(frame([3, 7], 3, 255), [7, ONES]);
+    assert_eq!(frame([3, 7], 12, 255), [7, 5]);
+    // The good ones put out what cell 0 was at first, or the bad ones do.
+    assert_eq!(frame([5, 7], 3, 255), [7, 5]);
+    assert_eq!(frame([ONES, 7], 3, 255), [7, ONES]);
+    assert_eq!(frame([ONES, 7], 12, 255), [7, ONES]);
+    assert_eq!(frame([0, 7], 12, 0), [7, 0]);
+    assert_eq!(frame([MINUS, 7], 12, 0), [7, 5]);
+    // Three of four put out another value.
+    assert_eq!(frame([5, 7], 7, 255), [ONES, ONES]);
+    assert_eq!(frame([ONES, 7], 1, 255), [7, 5]);
+}
+
+/// What is remembered is what was handed on, a wrong value too, and never what the single
+/// controller puts out.
+#[test]
+fn what_was_handed_on_is_remembered() {
+    let plan = crossed([3, 7]);
+    let of_actuator_1 = |frames: [(u64, u64, u8); 4]| handed_on(&plan, frames).map(|both| both[1]);
+    // The right value stays through ties, whichever half is bad and whatever it puts out.
+    assert_eq!(of_actuator_1([(5, 0, 0), (5, 3, 255), (5, 12, 0), (5, 3, 1)]), [5; 4]);
+    // Two of four are bad and nobody puts out 5 any more: node 0's. Then the wrong one stays.
+    let wrong = [(5, 0, 0), (6, 3, 255), (6, 3, 255), (6, 12, 255)];
+    assert_eq!(of_actuator_1(wrong), [5, ONES, ONES, ONES]);
+    // Three of four put it out: it is handed on and then remembered.
+    let more = [(5, 0, 0), (5, 14, 255), (5, 12, 255), (5, 12, 0)];
+    assert_eq!(of_actuator_1(more), [5, ONES, ONES, 5]);
+    // The sensor is 5 again, which was handed on before the last value: that does not count.
+    let again = [(5, 0, 0), (6, 0, 0), (5, 3, 0), (6, 3, 0)];
+    assert_eq!(of_actuator_1(again), [5, 6, 0, 0]);
+    // Each actuator has its own: for actuator 0 the good ones put out 7, which is remembered.
+    let both = handed_on(&plan, [(6, 3, 0), (7, 3, 0), (7, 3, 255)]);
+    assert_eq!(both, [[7, 0], [7, 0], [7, ONES]].map(Vec::from));
+}
+
+/// "A cylinder jumped between two values, each held by two nodes of four": with bytes 64 the bad
+/// pair puts out 32.50196. Both cells are voted in the one frame, and R is 1: nodes 2 and 3, good
+/// in frame 4, work in frame 5. There nobody puts out 20 any more.
+#[test]
+fn a_cylinder_that_jumped() {
+    let [none, most] = [0.0f64, 25.0].map(f64::to_bits);
+    let rows = [
+        [0, 4, 1, 2, 1, 1],
+        [1, 0, 0, 0, 0, 0],
+        [1, 1, 0, 0, 0, 0],
+        [10, 0, 0, 0, 0, 0],
+        [14, 0, 1, 0, none, most],
+        [20, 0, 0, 0, 0, 0],
+        [20, 0, 1, 0, 0, 0],
+        [30, 0, 1, 0, 0, 0],
+    ];
+    let line = |(mask, speed): (u64, f64)| format!("{mask:4}  64{:20}\n", speed.to_bits());
+    let masks = [(0, 20.0), (12, 20.0), (3, 20.0), (12, 20.0), (3, 20.0), (3, 21.0)];
+    let run = masks.map(line).concat();
+    let expected = "       0   4   4 4626322717216342016   4
+       1   2   2 4626322717216342016   0
+       2   0   2 4626322717216342016   0
+       3   0   2 4626322717216342016   0
+       4   0   2 4626322717216342016   0
+       5   2   2 4629771061636907072   0
+";
+    assert_eq!(printed(&plan_text(&rows), run.as_bytes()), expected);
+    assert_eq!(u64::from_be_bytes([64; 8]), 4629771061636907072);
+}
+
 /// The words of a system of K in which all nodes have these good counts, and everything else is 9.
 fn system_words(nodes: usize, good: u64) -> Vec<u64> {
-    let mut words = vec![9; 238];
+    let mut words = vec![9; 246];
     words[231..231 + nodes].fill(good);
     words
+}
+
+/// "The memory belongs to the system record": of its words the first A are read and written where a
+/// frame is not refused, and the others are neither.
+#[test]
+fn words_that_were_handed_on() {
+    let plan = crossed([3, 7]);
+    let mut power_on = vec![9; 246];
+    assert_eq!(calls::system_power_on(Some(&plan), &mut power_on), 0);
+    assert_eq!(power_on[231..], [1, 1, 1, 1, 0, 0, 0, 7, 3, 0, 0, 0, 0, 0, 0]);
+    let faults = vec![255; fault_length(&plan)];
+    // Nodes 0 and 1 are bad: of 255s and 7, and of 255s and 5, the remembered one. What stands in
+    // the place does not count.
+    let frame = |handed: [u64; 2], place: &mut [u64], mask: u64, bytes: usize| {
+        let mut system = power_on.clone();
+        system[238..].copy_from_slice(&[handed[0], handed[1], 7, 5, ONES, 1, MINUS, 0]);
+        let (before, faults, given) = (system.clone(), &faults[..bytes], (&mut system, &mut 9));
+        let answer = calls::system_frame(Some(&plan), given.0, &[5], mask, faults, place, given.1);
+        assert!(answer == 0 || system == before);
+        assert_eq!(system[240..], before[240..]);
+        assert!(answer != 0 || system[238..240] == *place);
+        answer
+    };
+    for (handed, expected) in [
+        ([7, 5], [7, 5]),
+        ([ONES, 5], [ONES, 5]),
+        ([7, ONES], [7, ONES]),
+        ([5, 7], [ONES, ONES]),
+        ([0, MINUS], [ONES, ONES]),
+    ] {
+        for given in [[7, 5], [ONES; 2], [0, 9]] {
+            let mut place = given;
+            assert_eq!((frame(handed, &mut place, 3, faults.len()), place), (0, expected));
+            let mut place = given;
+            assert_eq!((frame(handed, &mut place, 16, faults.len()), place), (9, given));
+            assert_eq!((frame(handed, &mut place, 3, faults.len() - 1), place), (8, given));
+            assert_eq!(frame(handed, &mut place[..1], 3, faults.len()), 8);
+            assert_eq!(place, given);
+        }
+    }
+    // The same by a run's line, and by one that is refused.
+    let next = |handed: [u64; 2], rest: &str| {
+        let (mut run, mut line, mut count) = ([&power_on[..], &[9; 35]].concat(), [b'.'; 61], 9);
+        run[238..246].copy_from_slice(&[handed[0], handed[1], 7, 5, ONES, 1, MINUS, 0]);
+        run[280] = 0;
+        let before = run.clone();
+        let rest = rest.as_bytes();
+        let answer = calls::listing_next(Some(&plan), &mut run, rest, &mut line, &mut count);
+        assert!(answer == 0 || run == before);
+        assert_eq!(run[240..246], before[240..246]);
+        (answer, [run[238], run[239]])
+    };
+    assert_eq!(next([7, ONES], "   3 255                   5\n"), (0, [7, ONES]));
+    assert_eq!(next([5, 7], "   3 255                   5\n"), (0, [ONES, ONES]));
+    assert_eq!(next([7, ONES], "  12 255                   6\n"), (0, [7, ONES]));
+    assert_eq!(next([5, 7], "  12 255                   6\n"), (0, [7, 6]));
+    assert_eq!(next([5, 7], ""), (0, [5, 7]));
+    for refused in ["  16 255                   5\n", "   3 256                   5\n", "   3"] {
+        assert_eq!(next([5, 7], refused), (10 + 256, [5, 7]));
+    }
 }
 
 /// "What a .. system record holds past n nodes .. is neither read nor changed"; "9: mask >= 2^n, or
@@ -565,11 +787,13 @@ fn calls_on_one_and_two_nodes() {
         let plan = k_of(nodes as u64, false);
         let faults = vec![0; fault_length(&plan)];
         let frame = |mask: u64, system: &mut [u64]| {
-            let (mut place, mut agreement) = ([9], 9);
+            let (mut place, mut agreement, handed) = ([9], 9, system[238]);
             let given = (&mut place, &mut agreement);
             let answer =
                 calls::system_frame(Some(&plan), system, &[5], mask, &faults, given.0, given.1);
-            assert!(system[33 * nodes..231].iter().chain(&system[231 + nodes..]).all(|&w| w == 9));
+            let past = [&system[33 * nodes..231], &system[231 + nodes..238], &system[239..]];
+            assert!(past.concat().iter().all(|&word| word == 9));
+            assert_eq!(system[238], if answer == 0 { place[0] } else { handed });
             (answer, agreement)
         };
         let good = |system: &[u64]| system[231..231 + nodes].to_vec();
@@ -691,8 +915,8 @@ fn order_of_refusals() {
         let answer = calls::system_frame(plan, system, &[0], mask, &faults, given.0, given.1);
         assert!(answer == 0 || (system.to_vec(), place) == (before, [9]));
         assert_eq!(agreement > 0, answer == 0 && mask != 7);
-        // Node 3 and cell 2 are past the plan's.
-        assert!((system[99], system[3], system[132]) == (9, 9, 9));
+        // Node 3, cell 2 and actuator 1 are past the plan's.
+        assert!((system[99], system[3], system[132], system[239]) == (9, 9, 9, 9));
         answer
     };
     assert_eq!(call(None, &mut system_words(3, 4), 8, 0), 7);
@@ -702,7 +926,7 @@ fn order_of_refusals() {
     let mut system = system_words(3, 3);
     system[231..234].copy_from_slice(&[3, 1, 0]);
     assert_eq!(call(Some(&plan), &mut system, 1, length), 0);
-    assert_eq!(system[231..], [0, 2, 1, 9, 9, 9, 9]);
+    assert_eq!(system[231..238], [0, 2, 1, 9, 9, 9, 9]);
     assert_eq!(call(Some(&plan), &mut system_words(3, 3), 7, length), 0);
     let mut count = 5;
     system[231..234].copy_from_slice(&[3, 2, 3]);
@@ -747,9 +971,9 @@ fn any_words_are_a_record() {
     let mut words = memory(high);
     assert_eq!(calls::node_power_on(Some(&plan), &mut words), 0);
     assert_eq!(words, vec![0; 33]);
-    let mut words = vec![high; 238];
+    let mut words = vec![high; 246];
     assert_eq!(calls::system_power_on(Some(&plan), &mut words), 0);
-    assert_eq!(words, [vec![0; 231], vec![3, 3, 3, 0, 0, 0, 0]].concat());
+    assert_eq!(words, [vec![0; 231], vec![3, 3, 3, 0, 0, 0, 0], vec![0; 8]].concat());
     assert_eq!((calls::system_power_on(None, &mut words), words[231]), (7, 3));
 }
 
@@ -768,9 +992,13 @@ fn agreement_beside_a_refusal() {
 
 /// K's run, with this mask in frame 1: document 01 has 4.
 fn k_run(mask: u64) -> Vec<u8> {
+    k_run_filled(mask, 255)
+}
+
+fn k_run_filled(mask: u64, fill: u64) -> Vec<u8> {
     let masks = [0, mask, 0, 0, 0, 0];
     let sensors = [1.0f64, 1.0, 2.0, 3.0, 3.0, 3.0];
-    let line = |(mask, sensor): (u64, f64)| format!("{mask:4} 255{:20}\n", sensor.to_bits());
+    let line = |(mask, sensor): (u64, f64)| format!("{mask:4}{fill:4}{:20}\n", sensor.to_bits());
     masks.into_iter().zip(sensors).map(line).collect::<String>().into_bytes()
 }
 
@@ -807,29 +1035,29 @@ fn refusal_line(answer: u64, room: usize) -> (u64, usize, String) {
 /// K's listing call by call: the run at power-on, a line each, the end, and a line that is refused.
 #[test]
 fn listing_of_k_by_calls() {
-    let (mut plan, mut run) = (vec![7; 446], vec![7; 273]);
+    let (mut plan, mut run) = (vec![7; 446], vec![7; 281]);
     let other = plan_text(&without(&K, 6));
     assert_eq!(calls::listing_start(&other, &mut plan, &mut run), 6);
-    assert_eq!((&plan[..], &run[..]), (&[7; 446][..], &[7; 273][..]));
+    assert_eq!((&plan[..], &run[..]), (&[7; 446][..], &[7; 281][..]));
     assert_eq!(calls::listing_start(&plan_text(&K), &mut plan, &mut run), 0);
     assert_eq!(plan, k_words());
-    assert_eq!(run, [vec![0; 231], vec![3, 3, 3, 0, 0, 0, 0], vec![0; 33], vec![3, 0]].concat());
+    assert_eq!(run, [vec![0; 231], vec![3, 3, 3, 0, 0, 0, 0], vec![0; 41], vec![3, 0]].concat());
     let text = k_run(4);
     let (mut rest, mut out) = (&text[..], String::new());
     for frame in 0..6 {
         // The R of the run counts for nothing, and the plan's is written.
-        run[271] = frame;
+        run[279] = frame;
         let (answer, count, line) = next_line(&mut run, rest);
-        assert_eq!((answer, count, run[271], run[272]), (0, 41, 3, frame + 1));
+        assert_eq!((answer, count, run[279], run[280]), (0, 41, 3, frame + 1));
         out += &line;
         rest = &rest[29..];
     }
     assert_eq!((out.as_str(), rest), (K_LISTING, &b""[..]));
     let mut words = run.clone();
-    (words[0], words[99], words[238], words[271]) = (1 << 16, 1 << 16, 1 << 16, 8);
+    (words[0], words[99], words[246], words[279]) = (1 << 16, 1 << 16, 1 << 16, 8);
     // At the end nothing is run.
     assert_eq!(next_line(&mut words, rest), (0, 0, String::new()));
-    assert_eq!((words[0], words[99], words[238], words[271], words[272]), (0, 1 << 16, 0, 8, 6));
+    assert_eq!((words[0], words[99], words[246], words[279], words[280]), (0, 1 << 16, 0, 8, 6));
     let before = words.clone();
     let refused = |run: &mut [u64], rest: &[u8], number: u64, line: u64| {
         assert_eq!(next_line(run, rest), (number + 256 * line, 0, String::new()));
@@ -839,14 +1067,14 @@ fn listing_of_k_by_calls() {
     refused(&mut words, &k_run(8)[29..], 10, 7);
     assert_eq!(words, before);
     // The last frame is 99,999.
-    words[272] = 99_999;
+    words[280] = 99_999;
     assert_eq!(next_line(&mut words, &text).0, 0);
-    assert_eq!(words[272], 100_000);
+    assert_eq!(words[280], 100_000);
     for frame in [100_000, 100_001, 1 << 32, 1 << 63, u64::MAX] {
-        words[272] = frame;
+        words[280] = frame;
         refused(&mut words, &text, 10, 100_001);
         assert_eq!(next_line(&mut words, b"").0, 0);
-        assert_eq!(words[272], frame);
+        assert_eq!(words[280], frame);
     }
     // 7, 9, 8, then 10.
     let call = |plan: Option<&Plan>, run: &mut [u64], room: usize| {
@@ -909,6 +1137,8 @@ fn agreement_of_a_listing() {
     assert_eq!(printed(0), line(4, 0, 4));
     assert_eq!(printed(1), line(3, 0, 3));
     assert_eq!(printed(12), line(2, 0, 0));
+    // The bad ones are the lower two: the initial 0 stays all the same.
+    assert_eq!(printed(3), line(2, 0, 0));
     assert_eq!(printed(14), line(1, u64::MAX, 3));
     assert_eq!(printed(15), line(0, u64::MAX, 0));
 }
@@ -924,8 +1154,9 @@ const ONE_LISTING: &str = "       0   1   1                   0   1
        5   1   0 9221120237041090560   1
 ";
 
-/// K of two nodes, node 1 bad in frame 1: where the setpoints differ, node 0's is handed on. The
-/// nodes stay a frame apart, as neither is more than half, and both work in frame 5.
+/// K of two nodes, node 1 bad in frame 1: where the setpoints differ and nobody puts out what was
+/// handed on last, node 0's is. The nodes stay a frame apart, as neither is more than half, and
+/// both work in frame 5.
 const TWO_LISTING: &str = "       0   2   2                   0   2
        1   1   1 4607182418800017408   0
        2   1   1 4607182418800017408   0
@@ -934,7 +1165,8 @@ const TWO_LISTING: &str = "       0   2   2                   0   2
        5   2   1 4618441417868443648   0
 ";
 
-/// The same with node 0 bad: the tie goes to node 0 all the same, though node 1 is right.
+/// The same with node 0 bad: the tie goes to node 0 all the same, though node 1 is right, as nobody
+/// puts out the 0, then the 255s; from frame 3 on the NaN is what was handed on last.
 const TWO_LISTING_0: &str = "       0   2   2                   0   2
        1   1   118446744073709551615   0
        2   1   1 9221120237041090560   0
@@ -943,12 +1175,25 @@ const TWO_LISTING_0: &str = "       0   2   2                   0   2
        5   2   1 9221120237041090560   0
 ";
 
+/// K of two nodes, node 1 bad in frame 1 with all bytes 0: it puts out the 0 that was handed on
+/// last, so that one stays, in frame 2 too, in which no cell is voted. Its counter is right and its
+/// cell 1 is not: 2 beside node 0's 3 in frame 3, 5 beside 6 in frame 5, node 0's each time, as
+/// nobody puts out the 0, then the 3.
+const TWO_LISTING_ZERO: &str = "       0   2   2                   0   2
+       1   1   1                   0   0
+       2   1   1                   0   2
+       3   1   1 4613937818241073152   0
+       4   1   1 4613937818241073152   2
+       5   2   1 4618441417868443648   0
+";
+
 #[test]
 fn listings_of_k_of_one_and_two_nodes() {
     let text = |nodes: u64| plan_text(&changed(&K, 1, &[(1, nodes)]));
     assert_eq!(printed(&text(1), &k_run(1)), ONE_LISTING);
     assert_eq!(printed(&text(2), &k_run(2)), TWO_LISTING);
     assert_eq!(printed(&text(2), &k_run(1)), TWO_LISTING_0);
+    assert_eq!(printed(&text(2), &k_run_filled(2, 0)), TWO_LISTING_ZERO);
     // "10: .. mask >= 2^n."
     let first = |listing: &str| listing[..41].to_owned() + "  10       2\n";
     assert_eq!(printed(&text(1), &k_run(2)), first(ONE_LISTING));
@@ -959,7 +1204,8 @@ fn listings_of_k_of_one_and_two_nodes() {
 
 /// Working, equal, the setpoint and the agreement in each of five frames of a plan with F = 2, in
 /// each frame of which cell 0 is taken from the sensor, which is 5. Nothing is voted, and R is 2. A
-/// bad node's bytes are 0: after frame 0 its counter is wrong, after frame 1 it is right.
+/// bad node's bytes are 0: after frame 0 its counter is wrong, after frame 1 it is right. Cell 0 is
+/// 0 at power-on.
 fn takes(nodes: u64, masks: [u64; 5]) -> [[u64; 4]; 5] {
     let take = |frame: u64| [10, frame, 0, 0, 0, 0];
     let rows = with(&changed(&ONE_CELL, 1, &[(1, nodes), (2, 2)]), 4, take(1));
@@ -982,7 +1228,8 @@ fn takes(nodes: u64, masks: [u64; 5]) -> [[u64; 4]; 5] {
 fn a_counter_left_in_another_frame() {
     let back = [[2, 2, 5, 2], [2, 3, 5, 2], [2, 3, 5, 3], [3, 3, 5, 3], [3, 3, 5, 3]];
     assert_eq!(takes(3, [4, 0, 0, 0, 0]), back);
-    let apart = [[1, 1, 5, 0], [1, 1, 5, 0], [1, 1, 5, 0], [2, 1, 5, 0], [2, 1, 5, 0]];
+    // Of the 5 and the 0 in frame 0 the plane hands on the 0 of power-on.
+    let apart = [[1, 1, 0, 0], [1, 1, 5, 0], [1, 1, 5, 0], [2, 1, 5, 0], [2, 1, 5, 0]];
     assert_eq!(takes(2, [2, 0, 0, 0, 0]), apart);
     let alone = [[0, 0, 0, 0], [0, 0, 5, 1], [0, 0, 5, 1], [1, 0, 5, 1], [1, 0, 5, 1]];
     assert_eq!(takes(1, [1, 0, 0, 0, 0]), alone);
@@ -1161,8 +1408,7 @@ fn position_case(pattern: u64) -> &'static str {
 #[test]
 fn runs_have_cams_in_each_case() {
     let (mut runs, mut with_cams, mut seen) = (0, 0, BTreeMap::new());
-    let classes = ["within the premise", "outside the premise", "longest plan", "long run"];
-    for case in (0..4000).map(case).filter(|case| classes.contains(&case.class)) {
+    for case in (0..4000).map(case).filter(|case| RUNS.contains(&case.class)) {
         let plan = read(&case.plan.unwrap()).unwrap();
         let (mut single, mut here) = (Memory::power_on(&plan), BTreeSet::new());
         for (_, _, sensors) in frames(&plan, case.run.unwrap()) {
@@ -1192,20 +1438,25 @@ fn small_frame(
     equal: usize,
     agreement: usize,
 ) -> Vec<&'static str> {
-    let setpoint = |node: usize, actuator: usize| match mask >> node & 1 {
-        0 => system.memories[node].setpoint(plan, actuator),
-        _ => u64::from_be_bytes([fill; 8]),
-    };
     let (one, two) = (plan.nodes == 1, plan.nodes == 2);
     let one_bad = two && (mask == 1 || mask == 2);
-    let differ = |actuator: usize| setpoint(0, actuator) != setpoint(1, actuator);
-    let tie = one_bad && (0..plan.actuators).any(differ);
+    let faults = vec![fill; fault_length(plan)];
+    // A tie goes to node 1 by what is remembered only.
+    let tie_to = |node: usize, bad: bool| {
+        let goes = |actuator: usize| {
+            let values = system.put_out(plan, mask, &faults, actuator);
+            values[0] != values[1] && system.handed[actuator] == values[node]
+        };
+        one_bad && (mask >> node & 1 == 1) == bad && (0..plan.actuators).any(goes)
+    };
     let all = [
         ("one, bad", one && mask == 1),
         ("one, good and not right", one && mask == 0 && equal == 0),
         ("two, both bad", two && mask == 3),
-        ("two, a tie that goes to the bad one", tie && mask == 1),
-        ("two, a tie that goes to the good one", tie && mask == 2),
+        ("two, a tie that goes to node 0, bad", tie_to(0, true)),
+        ("two, a tie that goes to node 0, good", tie_to(0, false)),
+        ("two, a tie that goes to node 1, bad", tie_to(1, true)),
+        ("two, a tie that goes to node 1, good", tie_to(1, false)),
         ("two, one bad that does not agree", one_bad && agreement == 0),
         ("two, one bad that agrees", one_bad && agreement == 2),
         ("two, good and apart", two && mask == 0 && agreement == 0),
@@ -1213,12 +1464,15 @@ fn small_frame(
     all.into_iter().filter(|(_, comes)| *comes).map(|(name, _)| name).collect()
 }
 
+/// The classes of runs that are whole.
+const RUNS: [&str; 5] =
+    ["within the premise", "outside the premise", "ties at the plane", "longest plan", "long run"];
+
 /// The generated runs have each number of nodes, and on one and two what can come there.
 #[test]
 fn runs_have_one_and_two_nodes() {
     let (mut runs, mut seen) = ([0; 8], BTreeMap::new());
-    let classes = ["within the premise", "outside the premise", "longest plan", "long run"];
-    for case in (0..4000).map(case).filter(|case| classes.contains(&case.class)) {
+    for case in (0..4000).map(case).filter(|case| RUNS.contains(&case.class)) {
         let plan = read(&case.plan.unwrap()).unwrap();
         runs[plan.nodes] += 1;
         if plan.nodes > 2 {
@@ -1237,7 +1491,69 @@ fn runs_have_one_and_two_nodes() {
     }
     println!("runs by nodes {:?}; of one and two nodes {seen:?}", &runs[1..]);
     assert!(runs[1..].iter().all(|&runs| runs > 100));
-    assert!(seen.len() == 8 && seen.values().all(|&runs| runs > 5));
+    assert!(seen.len() == 10 && seen.values().all(|&runs| runs > 5));
+}
+
+/// What comes for an actuator in a frame: what the nodes put out, what was handed on before and is
+/// now, and the single controller's setpoint.
+fn tie_cases(values: &[u64], mask: u64, before: u64, now: u64, single: u64) -> Vec<&'static str> {
+    let (most, first) = most_held(values);
+    let held = holders(values, before);
+    let tied = values.iter().any(|&value| value != now && holders(values, value) == most);
+    let fewer = held > 0 && held < most;
+    let decided = now != first;
+    let bad = (0..values.len()).filter(|&node| values[node] == now).map(|node| mask >> node & 1);
+    let bad = bad.collect::<BTreeSet<_>>();
+    let zeros = [0, MINUS].iter().all(|&zero| holders(values, zero) == most);
+    let all = [
+        ("memory decides", decided),
+        ("memory decides, of 2 nodes", decided && values.len() == 2),
+        ("memory decides, of 3", decided && values.len() == 3),
+        ("memory decides, of 4", decided && values.len() == 4),
+        ("memory decides, of 5", decided && values.len() == 5),
+        ("memory decides, of 6", decided && values.len() == 6),
+        ("memory decides, of 7", decided && values.len() == 7),
+        ("memory decides for good nodes", decided && bad == BTreeSet::from([0])),
+        ("memory decides for bad nodes", decided && bad == BTreeSet::from([1])),
+        ("memory decides, all good", decided && mask == 0),
+        ("memory decides for another than the single controller's", decided && now != single),
+        ("memory decides between the two zeros", decided && zeros),
+        ("tied, nobody puts out the remembered", tied && held == 0),
+        ("tied, fewer put out the remembered", tied && fewer),
+        ("not tied, fewer put out the remembered", !tied && fewer),
+    ];
+    all.into_iter().filter(|(_, comes)| *comes).map(|(name, _)| name).collect()
+}
+
+/// The generated runs have ties at the plane of each kind. Where another value than the remembered
+/// one is handed on, more nodes put it out.
+#[test]
+fn runs_have_ties() {
+    let (mut seen, mut first) = (BTreeMap::new(), 0);
+    for case in (0..4000).map(case).filter(|case| RUNS.contains(&case.class)) {
+        let plan = read(&case.plan.unwrap()).unwrap();
+        let (mut system, mut single) = (System::power_on(&plan), Memory::power_on(&plan));
+        let (mut place, mut here) = (vec![0; plan.actuators], BTreeSet::new());
+        for (number, (mask, fill, sensors)) in
+            frames(&plan, case.run.unwrap()).into_iter().enumerate()
+        {
+            let faults = vec![fill; fault_length(&plan)];
+            let before = system.handed.clone();
+            system.frame(&plan, &sensors, mask, &faults, &mut place);
+            single.compute(&plan, &sensors);
+            for actuator in 0..plan.actuators {
+                let values = &system.put_out(&plan, mask, &faults, actuator)[..plan.nodes];
+                let (before, now) = (before[actuator], place[actuator]);
+                assert!(now == before || holders(values, now) > holders(values, before));
+                let single = single.setpoint(&plan, actuator);
+                here.extend(tie_cases(values, mask, before, now, single));
+            }
+            first += usize::from(number == 0 && here.contains("memory decides"));
+        }
+        here.into_iter().for_each(|case| *seen.entry(case).or_insert(0) += 1);
+    }
+    println!("runs with ties {seen:?}; memory decides in frame 0 of {first}");
+    assert!(seen.len() == 15 && seen.values().all(|&runs| runs > 5) && first > 5);
 }
 
 /// Demand 3's premise, from the masks: in each frame more than half of the nodes are good in it and
@@ -1280,7 +1596,8 @@ fn premise_of_one_and_two_nodes() {
 
 /// Demand 3: within its premise the plane hands on the single controller's setpoints, and the
 /// working nodes' memories equal the single controller's. As these send the same, the agreement is
-/// not below their number.
+/// not below their number. What is remembered, at power-on too, are the single controller's
+/// setpoints.
 #[test]
 fn within_the_premise_the_system_is_the_single_controller() {
     for case in (0..1000).map(case).filter(|case| case.class == "within the premise") {
@@ -1288,6 +1605,10 @@ fn within_the_premise_the_system_is_the_single_controller() {
         let mut system = System::power_on(&plan);
         let mut single = Memory::power_on(&plan);
         let mut place = vec![0; plan.actuators];
+        let setpoints = |single: &Memory| {
+            (0..plan.actuators).map(|actuator| single.setpoint(&plan, actuator)).collect::<Vec<_>>()
+        };
+        assert_eq!(system.handed, setpoints(&single));
         for (mask, fill, sensors) in frames(&plan, case.run.unwrap()) {
             let faults = vec![fill; fault_length(&plan)];
             let before = system.counts.clone();
@@ -1299,9 +1620,7 @@ fn within_the_premise_the_system_is_the_single_controller() {
                 let works = mask >> node & 1 == 0 && before[node] == plan.period;
                 assert!(!works || system.memories[node] == single);
             }
-            let setpoints: Vec<_> =
-                (0..plan.actuators).map(|actuator| single.setpoint(&plan, actuator)).collect();
-            assert_eq!(place, setpoints);
+            assert_eq!((&place, &system.handed), (&setpoints(&single), &setpoints(&single)));
         }
     }
 }

@@ -12,7 +12,7 @@ use super::view::names::Names;
 use super::view::{pattern, show, text};
 use super::{each, same, Tested, Tree};
 
-pub const EXAMPLES: [&str; 6] = ["k", "press", "cutter", "numbering", "weakening", "outage"];
+pub const EXAMPLES: [&str; 7] = ["k", "press", "cutter", "numbering", "weakening", "outage", "tie"];
 
 /// A run of the reference's generator, followed by the proved program; None if its plan is refused.
 pub fn run(

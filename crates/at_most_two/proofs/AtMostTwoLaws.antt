@@ -1,4 +1,4 @@
--- What AtMostTwo states of a press of one or two controllers holds (request 2026-04); and what the press is handed there, and the listing says of it.
+-- What AtMostTwo states of a press of one or two controllers holds (request 2026-04); and what the press is handed there (request 2026-06), and the listing says of it.
 use mathlib.Core.Path.{_≡_, refl, sym, ap, _∙_}
 use mathlib.Core.Bool.{Bool, true, false, not}
 use mathlib.Core.List.{List, [], _∷_, _++_}
@@ -7,9 +7,9 @@ use mathlib.Core.Option.{some, Option·getD}
 use Prim.Native.Nat.{ℕ, suc, _%_, _^_, _≤_, _<_}
 use native.Mathlib.Omega.{arith}
 use native.Mathlib.Nat.{mod-eq-of-lt}
-use lib.Dec.{eqb}
+use lib.Dec.{eqb, ltb}
 use lib.ListN.{length, getD, take}
-use borrow.Author.Tests.{ltb-true, eqb-true, eq-eqb, ne-eqb, not-true}
+use borrow.Author.Tests.{ltb-true, ltb-false, eqb-true, eq-eqb, ne-eqb, not-true}
 use Rattle.array.specs.Index.{allBelow, allIn, fill}
 use Rattle.array.proofs.TestLaws.{split, and-left, and-right, and-both}
 use Rattle.array.proofs.IndexLaws.{allBelow-at, allBelow-not, allIn-take, howMany-bound, howMany-all, howMany-every}
@@ -25,7 +25,11 @@ use Rattle.plan.specs.Accepted.{accepted}
 use Rattle.plan.proofs.AcceptedLaws.{Shape, shape-of-accepted}
 use Rattle.memory.specs.declared.Memory.{Memory}
 use Rattle.memory.specs.Node.{zeroMemory, poweredOn, computed, before, messageOf, binOf, counterIn, cellIn}
-use Rattle.ballot.proofs.AtMostTwoLaws.{plane-first}
+use Rattle.ballot.specs.Majority.{holders}
+use Rattle.ballot.proofs.MajorityLaws.{holders-some}
+use Rattle.ballot.proofs.ScanLaws.{holders-held}
+use Rattle.ballot.proofs.PlaneLaws.{plane-of-most}
+use Rattle.ballot.proofs.AtMostTwoLaws.{plane-remembered, plane-first}
 use Rattle.task.proofs.TaskLaws.{Bounded}
 use Rattle.memory.proofs.MessageLaws.{sentCell-voted, counterFrom-message, cellFrom-message, counterIn-bin, cellIn-bin}
 use Rattle.memory.proofs.NodeLaws.{poweredOn-bounded, computed-small, computed-length, computed-bounded}
@@ -34,11 +38,11 @@ use Rattle.memory.proofs.AtMostTwoLaws.{vote-counter-own, vote-own, vote-agreem
 use Rattle.system.specs.declared.System.{System}
 use Rattle.system.specs.System.{zeroSystem, powerOn}
 use Rattle.system.specs.Fault.{bad, faultSetpoint}
-use Rattle.system.specs.Frame.{memoryOf, computedBy, heard, mailboxOf, memoryAfter, putOut, systemAfter, placeAfter, agreementBy, frameAgreement}
+use Rattle.system.specs.Frame.{memoryOf, handedOf, computedBy, heard, mailboxOf, memoryAfter, putOut, handedOn, systemAfter, placeAfter, agreementBy, frameAgreement}
 use Rattle.system.specs.CountCalls.{sameMemory}
 use Rattle.system.specs.FrameCall.{maskOk}
 use Rattle.system.specs.Demand.{Call, callTests, isFrame, next, finally, singleNext, singleFinally, masks, goodIn, MostGood, Premise, OnePlan}
-use Rattle.at_most_two.specs.AtMostTwo.{allGood, Vouched, Bytes, NoRepair, Apart, StaysApart, OneStaysApart}
+use Rattle.at_most_two.specs.AtMostTwo.{allGood, Vouched, Bytes, NoRepair, Apart, StaysApart, OneStaysApart, rememberedOrFirst}
 use Rattle.system.proofs.FaultLaws.{faultMemory-length, faultMemory-bounded}
 use Rattle.system.proofs.CountLaws.{Counts, counts-after}
 use Rattle.system.proofs.FrameLaws.{heard-length, memory-after}
@@ -353,12 +357,34 @@ module _ (p : Plan) (accept : accepted p ≡ true) (two : p .nodes ≤ 2) (sys :
   unfolding putOut faultSetpoint
   puts a j = split (bad mask j) (λ e. rw e) (λ e. rw e)
 
-  -- the plane hands on what node 0 puts out, good or bad
-  pub place-first : (place : List ℕ) → placeAfter p sys sensors mask faults place ≡ fill (λ a. Option·getD (putOut p sys sensors mask faults a 0) 0) (p .actuators) place
+  -- the plane hands on the remembered value where one of them puts it out, good or bad
+  pub handed-remembered :
+      (a j : ℕ) → j < p .nodes → putOut p sys sensors mask faults a j ≡ some (handedOf sys a) → handedOn p sys sensors mask faults a ≡ handedOf sys a
+  unfolding handedOn
+  handed-remembered a j l e = plane-remembered (putOut p sys sensors mask faults a) (p .nodes) two (handedOf sys a) j l e
+
+  -- else what node 0 puts out, good or bad
+  pub handed-first :
+      (a : ℕ) → ((j : ℕ) → j < p .nodes → putOut p sys sensors mask faults a j ≡ some (handedOf sys a) → ⊥) →
+      handedOn p sys sensors mask faults a ≡ Option·getD (putOut p sys sensors mask faults a 0) 0
+  unfolding handedOn
+  handed-first a nobody =
+      plane-first (putOut p sys sensors mask faults a) (p .nodes) two (handedOf sys a) _ (shape-of-accepted p accept .nodes-low) (puts a 0) nobody
+
+  handed-either : (a : ℕ) → handedOn p sys sensors mask faults a ≡ rememberedOrFirst p sys sensors mask faults a
+  unfolding rememberedOrFirst
+  handed-either a =
+      let put = putOut p sys sensors mask faults a in
+      split (ltb 0 (holders put (p .nodes) (handedOf sys a)))
+      (λ t. let s = holders-some put (p .nodes) (handedOf sys a) (ltb-true _ _ t) in rw t (handed-remembered a (s .0) (s .1) (s .2)))
+      (λ t. rw t (handed-first a (λ j l e.
+      omega (arith, holders-held put (p .nodes) j l e, ltb-false 0 (holders put (p .nodes) (handedOf sys a)) t))))
+
+  -- so the place has these
+  pub place-remembered-or-first :
+      (place : List ℕ) → placeAfter p sys sensors mask faults place ≡ fill (rememberedOrFirst p sys sensors mask faults) (p .actuators) place
   unfolding placeAfter
-  place-first place =
-      fill-same _ _ (p .actuators) place
-      (λ a l. rw (plane-first (putOut p sys sensors mask faults a) (p .nodes) two _ (shape-of-accepted p accept .nodes-low) (puts a 0)))
+  place-remembered-or-first place = fill-same _ _ (p .actuators) place (λ a l. handed-either a)
 
   -- all agree, or none
   pub agreement-all-or-none : (frameAgreement p sys sensors mask faults ≡ p .nodes) ⊎ (frameAgreement p sys sensors mask faults ≡ 0)
@@ -370,6 +396,18 @@ module _ (p : Plan) (accept : accepted p ≡ true) (two : p .nodes ≤ 2) (sys :
       let r = allBelow-not (bad mask) (p .nodes) t in
       least-of-some _ _ (λ (k : ℕ). (k ≡ p .nodes) ⊎ (k ≡ 0)) (p .nodes) (r .0) (r .1) (ap not (r .2))
       (λ k l u. vote-agreement-all p two (computedBy p sys sensors mask faults k) (mailboxOf p sys sensors mask faults k)))
+
+-- of one controller the plane hands on what it puts out, good or bad, whatever is remembered
+pub place-one :
+    (p : Plan) → accepted p ≡ true → p .nodes ≡ 1 → (sys : System) (sensors : List ℕ) (mask : ℕ) (faults place : List ℕ) →
+    placeAfter p sys sensors mask faults place ≡ fill (λ a. Option·getD (putOut p sys sensors mask faults a 0) 0) (p .actuators) place
+unfolding placeAfter handedOn
+place-one p accept one sys sensors mask faults place =
+    fill-same _ _ (p .actuators) place
+    (λ a l.
+    let put = putOut p sys sensors mask faults a in
+    let held = holders-held put (p .nodes) 0 (omega arith) (puts p accept (omega arith) sys sensors mask faults a 0) in
+    plane-of-most put (p .nodes) (handedOf sys a) (Option·getD (put 0) 0) (omega (arith, one, held)))
 
 -- one controller alone agrees with itself in every frame in which it is good, whatever it holds
 pub one-agrees :

@@ -1,18 +1,21 @@
--- Request 2026-04: one and two controllers. What holds of such a press beside demand 3; the laws are in AtMostTwoLaws.
+-- Request 2026-04: one and two controllers. What holds of such a press beside demand 3; the laws are in AtMostTwoLaws. Request 2026-06: what the plane hands on there.
 use mathlib.Core.Path.{_≡_}
-use mathlib.Core.Bool.{Bool, true}
+use mathlib.Core.Bool.{Bool, true, cond}
 use mathlib.Core.Logic.{_↔_}
 use mathlib.Core.List.{List, [], _∷_, _++_}
+use mathlib.Core.Option.{Option·getD}
 use Prim.Native.Nat.{ℕ, _%_, _≤_, _<_}
-use lib.Dec.{eqb}
+use lib.Dec.{eqb, ltb}
 use lib.ListN.{getD}
 use Rattle.array.specs.Index.{allIn}
 use Rattle.plan.specs.declared.Plan.{Plan}
 use Rattle.plan.specs.Accepted.{accepted}
 use Rattle.memory.specs.declared.Memory.{Memory}
 use Rattle.memory.specs.Node.{poweredOn}
+use Rattle.ballot.specs.Majority.{holders}
+use Rattle.system.specs.declared.System.{System}
 use Rattle.system.specs.System.{powerOn}
-use Rattle.system.specs.Frame.{memoryOf}
+use Rattle.system.specs.Frame.{memoryOf, handedOf, putOut}
 use Rattle.system.specs.Demand.{Call, finally, singleFinally, masks, goodIn, Premise, OnePlan}
 
 -- the masks of all frames of a list are 0
@@ -59,3 +62,12 @@ OneStaysApart =
     (p : Plan) → accepted p ≡ true → p .nodes ≡ 1 → (earlier later : List Call) → OnePlan p (earlier ++ later) → allGood later ≡ true →
     Apart p (memoryFinally p earlier 0) (singleFinally (poweredOn p) earlier) →
     Apart p (memoryFinally p (earlier ++ later) 0) (singleFinally (poweredOn p) (earlier ++ later))
+
+-- "Of tied values the remembered one wins; if it isn't among them, the old rule decides": of one or two that is, for actuator a, the remembered value where a node puts it
+-- out, good or bad, else what node 0 puts out
+module _ (p : Plan) (sys : System) (sensors : List ℕ) (mask : ℕ) (faults : List ℕ) where
+  unfoldable pub rememberedOrFirst : ℕ → ℕ
+  rememberedOrFirst a =
+      cond (ltb 0 (holders (putOut p sys sensors mask faults a) (p .nodes) (handedOf sys a)))
+      (handedOf sys a)
+      (Option·getD (putOut p sys sensors mask faults a 0) 0)

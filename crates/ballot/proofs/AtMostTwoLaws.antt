@@ -1,19 +1,20 @@
--- Request 2026-04: of one bin, or of two, more than half are all. So every bin holds a voted value, as many agree as there are bins or none, and the plane, where values are
--- tied, hands on what node 0 puts out.
+-- Request 2026-04: of one bin, or of two, more than half are all. So every bin holds a voted value, as many agree as there are bins or none. The plane, where two
+-- values are tied, hands on the remembered one, if either node puts it out, else what node 0 does.
 use mathlib.Core.Path.{_≡_, refl, sym, ap, _∙_}
 use mathlib.Core.Logic.{_⊎_, inl, inr}
 use mathlib.Core.Option.{Option, none, some}
 use Prim.Native.Nat.{ℕ, _*_, _≤_, _<_}
 use native.Mathlib.Omega.{arith}
-use lib.Dec.{eqb}
-use borrow.Author.Tests.{eqb-true, eqb-false}
+use native.Mathlib.Nat.{le-refl}
+use lib.Dec.{eqb, ltb}
+use borrow.Author.Tests.{eqb-true, eqb-false, ltb-true, ltb-false}
 use Rattle.array.proofs.TestLaws.{split}
 use Rattle.array.proofs.IndexLaws.{howMany-bound, howMany-all}
 use Rattle.ballot.specs.Majority.{holds, holders, majority, agreement}
 use Rattle.ballot.specs.Plane.{plane}
-use Rattle.ballot.proofs.MajorityLaws.{holds-true, majority-some}
+use Rattle.ballot.proofs.MajorityLaws.{holds-true, majority-some, holders-some}
 use Rattle.ballot.proofs.ScanLaws.{holders-held}
-use Rattle.ballot.proofs.PlaneLaws.{Handed, plane-handed, plane-some}
+use Rattle.ballot.proofs.PlaneLaws.{Lowest, Handed, plane-kept, plane-handed, holders-apart}
 use Rattle.ballot.proofs.AgreementLaws.{holders-bound, agreement-none, agreement-of-most, agreement-half, agreement-bound}
 
 module _ (bin : ℕ → Option ℕ) (n : ℕ) (two : n ≤ 2) where
@@ -34,21 +35,35 @@ module _ (bin : ℕ → Option ℕ) (n : ℕ) (two : n ≤ 2) where
       by none e = inr (agreement-none bin n e)
       by (some v) e = inl (omega (arith, two, agreement-half bin n v e, agreement-bound bin n))
 
-  -- what node 0 puts out is handed on, whatever the other does
-  pub plane-first : (v : ℕ) → 0 < n → bin 0 ≡ some v → plane bin n ≡ some v
-  plane-first v l e =
-      let r = plane-some bin n 0 v l e in
-      let w : ℕ = r .0 in
-      let h : Handed bin n w = plane-handed bin n w (r .1) in
-      split (eqb (holders bin n v) (holders bin n w))
+  -- of two that differ the remembered one, if either puts it out
+  pub plane-remembered : (r j : ℕ) → j < n → bin j ≡ some r → plane bin n r ≡ r
+  plane-remembered r j l e =
+      plane-kept bin n r
+      (λ w. split (eqb w r)
+      (λ t. rw (eqb-true w r t) (le-refl _))
+      (λ t. omega (arith, two, holders-held bin n j l e, holders-apart bin n w r (eqb-false w r t))))
+
+  -- else what node 0 puts out
+  pub plane-first : (r v : ℕ) → 0 < n → bin 0 ≡ some v → ((j : ℕ) → j < n → bin j ≡ some r → ⊥) → plane bin n r ≡ v
+  plane-first r v l e nobody =
+      let held : 0 < holders bin n v = holders-held bin n 0 l e in
+      let h : Handed bin n r (plane bin n r) = plane-handed bin n r in
+      let low : Lowest bin n (plane bin n r) = h .old (omega (arith, held, h .most v, unheld)) in
+      split (eqb (plane bin n r) v)
+      (eqb-true (plane bin n r) v)
       (λ t.
-      let lowest : h .holder ≤ 0 = h .lowest 0 v l e (eqb-true _ _ t) in
-      let zeroth : h .holder ≡ 0 = omega arith in
-      r .1 ∙ sym (h .holds) ∙ ap bin zeroth ∙ e)
-      (λ t.
-      let all : bin 0 ≡ some w = most-all w
-      (omega (arith, two, holders-held bin n 0 l e, h .most 0 v l e, eqb-false (holders bin n v) (holders bin n w) t)) 0 l in
-      r .1 ∙ sym all ∙ e)
+      let even : holders bin n v ≡ holders bin n (plane bin n r) =
+      omega (arith, two, held, h .most v, holders-apart bin n (plane bin n r) v (eqb-false (plane bin n r) v t)) in
+      let lowest : low .holder ≤ 0 = low .lowest 0 v l e even in
+      let zeroth : low .holder ≡ 0 = omega arith in
+      let one : some (plane bin n r) ≡ some v = sym (low .holds) ∙ ap bin zeroth ∙ e in
+      cc)
+    where
+      unheld : holders bin n r ≤ 0
+      unheld =
+          split (ltb 0 (holders bin n r))
+          (λ t. let s = holders-some bin n r (ltb-true _ _ t) in absurd (nobody (s .0) (s .1) (s .2)))
+          (ltb-false 0 (holders bin n r))
 
 -- a bin by itself is more than half
 pub agreement-one : (bin : ℕ → Option ℕ) (v : ℕ) → bin 0 ≡ some v → agreement bin 1 ≡ 1

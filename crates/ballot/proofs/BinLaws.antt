@@ -30,8 +30,8 @@ module _ (bin : ℕ → Option ℕ) (n : ℕ) (values : List ℕ) (t : Told bin 
   pub told-packs : Packs bin n values n
   told-packs = record { few = omega arith; alike = λ v. holders-same (packed values n) bin n v (λ j l. packed-in values n j l ∙ sym (t j l)) }
 
-  pub told-plane : plane (packed values n) n ≡ plane bin n
-  told-plane = plane-same (packed values n) bin n (λ j l. packed-in values n j l ∙ sym (t j l))
+  pub told-plane : (r : ℕ) → plane (packed values n) n r ≡ plane bin n r
+  told-plane r = plane-same (packed values n) bin n r (λ j l. packed-in values n j l ∙ sym (t j l))
 
 pub told-to : (bin : ℕ → Option ℕ) (values : List ℕ) {j n : ℕ} → Told bin j values → j ≡ n → Told bin n values
 told-to bin values t e = rw e at t

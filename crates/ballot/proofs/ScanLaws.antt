@@ -10,7 +10,7 @@ use Rattle.array.specs.Index.{howMany}
 use Rattle.array.proofs.TestLaws.{split}
 use Rattle.array.proofs.IndexLaws.{howMany-hit, howMany-miss, howMany-grows}
 use Rattle.ballot.specs.Majority.{holds, holders, backing}
-use Rattle.ballot.specs.Plane.{mostHeld}
+use Rattle.ballot.specs.Code.{bestFrom}
 use Rattle.ballot.proofs.MajorityLaws.{no-some, holds-true, some-holds}
 
 -- ---- the holders of a value
@@ -49,20 +49,15 @@ module _ (bin : ℕ → Option ℕ) where
 
 -- ---- the value that most put out
 
-module _ (put : ℕ → Option ℕ) (n : ℕ) where
-  pub held-first : {v : ℕ} → 0 < n → put 0 ≡ some v → some v ≡ mostHeld put n 1
-  unfolding mostHeld backing
-  held-first {v} l e = rw (e, lt-ltb 0 (holders put n v) (holders-held put n 0 l e))
+module _
+    (put : ℕ → Option ℕ) (n r i : ℕ) {best x most held : ℕ}
+    (b : best ≡ bestFrom put n r i) (p : put i ≡ some x)
+    (m : most ≡ holders put n best) (h : held ≡ holders put n x)
+  where
+    pub best-new : most < held → x ≡ bestFrom put n r (i + 1)
+    unfolding bestFrom backing
+    best-new l = rw (add-one i, ← b, p, ← m, ← h, lt-ltb most held l)
 
-  module _
-      (i : ℕ) {best x most held : ℕ}
-      (b : some best ≡ mostHeld put n i) (p : put i ≡ some x)
-      (m : most ≡ holders put n best) (h : held ≡ holders put n x)
-    where
-      pub held-new : most < held → some x ≡ mostHeld put n (i + 1)
-      unfolding mostHeld backing
-      held-new l = rw (add-one i, ← b, p, ← m, ← h, lt-ltb most held l)
-
-      pub held-old : held ≤ most → some best ≡ mostHeld put n (i + 1)
-      unfolding mostHeld backing
-      held-old l = rw (add-one i, ← b, p, ← m, ← h, le-ltb most held l)
+    pub best-old : held ≤ most → best ≡ bestFrom put n r (i + 1)
+    unfolding bestFrom backing
+    best-old l = rw (add-one i, ← b, p, ← m, ← h, le-ltb most held l)

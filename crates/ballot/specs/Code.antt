@@ -2,11 +2,11 @@
 use mathlib.Core.Path.{_≡_}
 use mathlib.Core.Bool.{cond}
 use mathlib.Core.List.{List}
-use mathlib.Core.Option.{Option, none, some}
-use Prim.Native.Nat.{ℕ, _≤_, _<_}
+use mathlib.Core.Option.{Option, none, some, Option·getD}
+use Prim.Native.Nat.{ℕ, zero, suc, _≤_, _<_}
 use lib.Dec.{ltb}
 use lib.ListN.{getD}
-use Rattle.ballot.specs.Majority.{holders}
+use Rattle.ballot.specs.Majority.{holders, backing}
 use Rattle.ballot.specs.declared.Voted.{Voted}
 use Rattle.ballot.specs.declared.Voted.the-variants.{Value, Nothing}
 
@@ -27,3 +27,8 @@ Told bin n values = (j : ℕ) → j < n → bin j ≡ some (getD values j 0)
 abbrev pub votedValue : Voted → Option ℕ
 votedValue (Value v) = some v
 votedValue Nothing = none
+
+-- the best of the remembered value and of what the first k put out, by a loop over these
+unfoldable pub bestFrom : (ℕ → Option ℕ) → ℕ → ℕ → ℕ → ℕ
+bestFrom put n r zero = r
+bestFrom put n r (suc k) = cond (ltb (holders put n (bestFrom put n r k)) (backing put n (put k))) (Option·getD (put k) r) (bestFrom put n r k)

@@ -1,6 +1,6 @@
 // The steps of a vote, for callers that know how many bins there are. Of n bins, k hold something; their values stand packed in the front of an array.
 ghost use mathlib.Core.Path.{_≡_};
-ghost use mathlib.Core.Option.{some, Option·getD};
+ghost use mathlib.Core.Option.{Option·getD};
 ghost use Prim.Native.Nat.{_<_, _≤_, min as minOf};
 ghost use Rattle.plan.specs.Limits.{mostNodes, mostFrames};
 ghost use Rattle.ballot.specs.Majority.{holders as holdersOf, backing, majority as majorityOf, orOwn};
@@ -90,14 +90,14 @@ pub fn or_old(v: Voted, old: u64) -> u64
     }
 }
 
-// The value that most of k nodes put out; of tied ones that of the lowest holder. By counting the holders of each:
-fn most_held(values: &[u64; Plan::NODES], k: usize) -> u64
-    requires { ⌜ (0 < k) × (k ≤ mostNodes) ⌝ }
-    ensures { λ r. ⌜ some r ≡ planeOf (packed (now (values .entry)) k) k ⌝ }
+// The value that most of k nodes put out; of tied ones the remembered, else that of the lowest holder. By counting the holders of each:
+fn most_held(values: &[u64; Plan::NODES], k: usize, remembered: u64) -> u64
+    requires { ⌜ k ≤ mostNodes ⌝ }
+    ensures { λ r. ⌜ r ≡ planeOf (packed (now (values .entry)) k) k remembered ⌝ }
 {
-    let mut best = values[0];
+    let mut best = remembered;
     let mut most = holders(values, k, best);
-    let mut i: usize = 1;
+    let mut i: usize = 0;
     while i < k {
         let x = values[i];
         let held = holders(values, k, x);
@@ -111,12 +111,12 @@ fn most_held(values: &[u64; Plan::NODES], k: usize) -> u64
 }
 
 // and where more than half put out one value, by that.
-pub fn plane(values: &[u64; Plan::NODES], k: usize) -> u64
-    requires { ⌜ (0 < k) × (k ≤ mostNodes) ⌝ }
-    ensures { λ r. ⌜ some r ≡ planeOf (packed (now (values .entry)) k) k ⌝ }
+pub fn plane(values: &[u64; Plan::NODES], k: usize, remembered: u64) -> u64
+    requires { ⌜ k ≤ mostNodes ⌝ }
+    ensures { λ r. ⌜ r ≡ planeOf (packed (now (values .entry)) k) k remembered ⌝ }
 {
     let Voted::Value(x) = majority(values, k, k) else {
-        return most_held(values, k);
+        return most_held(values, k, remembered);
     };
     x
 }

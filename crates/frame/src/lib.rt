@@ -48,6 +48,7 @@ fn on_rows(
     let mut cells = [0u64; rows::step::WORDS];
     rows::step::unpack(system, &mut counters, &mut cells);
     let cams = cam::table();
+    let mut seen = rows::step::seen_words(system.seen);
     let agreement = row_frame::step::frame(
         plan,
         s,
@@ -59,9 +60,11 @@ fn on_rows(
         &mut counters,
         &mut cells,
         &mut good,
-        place,
+        &mut seen,
     );
-    let after = rows::step::pack(&counters, &cells, good);
+    let actuators = plan.actuators;
+    array::step::copy(&seen[0..actuators], place);
+    let after = rows::step::pack(&counters, &cells, good, seen);
     Stepped {
         system: after,
         agreement,

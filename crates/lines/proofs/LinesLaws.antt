@@ -42,16 +42,16 @@ module _ (p : Plan) (sys : System) (single : Memory) (first : ℕ) (rest out₀ 
   width = printedSize (p .actuators)
 
   -- k lines are run, and the rows hold what stands then
-  pub record Going (k : ℕ) (counters cells good out : List ℕ) : Type 0 where
+  pub record Going (k : ℕ) (counters cells good seen out : List ℕ) : Type 0 where
     pub ran : Ran p sys single first rest out₀ k out
-    pub rows : Rows (systemAt p sys single first rest k) counters cells good
+    pub rows : Rows (systemAt p sys single first rest k) counters cells good seen
     pub first-row : memoryIn counters cells 0 ≡ singleAt p sys single first rest k
 
-  pub going-none : {counters cells good : List ℕ} → first ≤ mostRunLines → Rows sys counters cells good → memoryIn counters cells 0 ≡ single → Going 0 counters cells good out₀
+  pub going-none : {counters cells good seen : List ℕ} → first ≤ mostRunLines → Rows sys counters cells good seen → memoryIn counters cells 0 ≡ single → Going 0 counters cells good seen out₀
   unfolding systemAt singleAt
   going-none l h m = record { ran = ran-none p sys single first rest out₀ l; rows = h; first-row = m }
 
-  module _ {k : ℕ} {counters cells good out : List ℕ} (g : Going k counters cells good out) where
+  module _ {k : ℕ} {counters cells good seen out : List ℕ} (g : Going k counters cells good seen out) where
     abbrev here : System
     here = systemAt p sys single first rest k
 
@@ -62,21 +62,21 @@ module _ (p : Plan) (sys : System) (single : Memory) (first : ℕ) (rest out₀ 
     lineTold = lineNumbers p (first + k) (lineBytes p sys single first rest k)
 
     -- line k, on its part of the buffer
-    module _ (line to : List ℕ) {a b : ℕ} {o : Option (List ℕ)} {taken : Bool} {counters' cells' good' : List ℕ}
+    module _ (line to : List ℕ) {a b : ℕ} {o : Option (List ℕ)} {taken : Bool} {counters' cells' good' seen' : List ℕ}
         (e : line ≡ lineBytes p sys single first rest k)
         (f : o ≡ lineNumbers p (first + k) line)
         (ea : a ≡ k * width)
         (eb : b ≡ width)
-        (made : (y : System) → Rows y counters cells good → LineMade p y (memoryIn counters cells 0) (first + k) o (take b (drop a out)) taken counters' cells' good' to) where
+        (made : (y : System) → Rows y counters cells good seen → LineMade p y (memoryIn counters cells 0) (first + k) o (take b (drop a out)) taken counters' cells' good' seen' to) where
       abbrev Made : Option (List ℕ) → Type 0
-      Made x = LineMade p here alone (first + k) x (take b (drop a out)) taken counters' cells' good' to
+      Made x = LineMade p here alone (first + k) x (take b (drop a out)) taken counters' cells' good' seen' to
 
       made-here : Made lineTold
       made-here =
           subst Made (f ∙ ap (lineNumbers p (first + k)) e)
-          (subst (λ (m : Memory). LineMade p here m (first + k) o (take b (drop a out)) taken counters' cells' good' to) (g .first-row) (made here (g .rows)))
+          (subst (λ (m : Memory). LineMade p here m (first + k) o (take b (drop a out)) taken counters' cells' good' seen' to) (g .first-row) (made here (g .rows)))
 
-      more-by : (x : Option (List ℕ)) → lineTold ≡ x → Made x → taken ≡ true → Going (k + 1) counters' cells' good' (putMid a b out to)
+      more-by : (x : Option (List ℕ)) → lineTold ≡ x → Made x → taken ≡ true → Going (k + 1) counters' cells' good' seen' (putMid a b out to)
       unfolding stepAnswer stepPlace systemAt singleAt
       more-by none q m t = absurd (clash t (m .taken-is))
       more-by (some l) q m t =
@@ -85,11 +85,11 @@ module _ (p : Plan) (sys : System) (single : Memory) (first : ℕ) (rest out₀ 
           let v : singleAfter p alone l ≡ singleAt p sys single first rest (k + 1) = rw (add-one k, n) in
           record {
             ran = ran-more p sys single first rest (g .ran) to l ea eb q (m .out-is);
-            rows = subst (λ (y : System). Rows y counters' cells' good') u (m .rows);
+            rows = subst (λ (y : System). Rows y counters' cells' good' seen') u (m .rows);
             first-row = m .first-row ∙ v;
           }
 
-      stop-by : (x : Option (List ℕ)) → lineTold ≡ x → Made x → taken ≡ false → Going k counters' cells' good' (putMid a b out to) × (frames p sys single first rest ≡ k)
+      stop-by : (x : Option (List ℕ)) → lineTold ≡ x → Made x → taken ≡ false → Going k counters' cells' good' seen' (putMid a b out to) × (frames p sys single first rest ≡ k)
       unfolding stepAnswer stepPlace readLine
       stop-by none q m t =
           let same : putMid a b out to ≡ out = ap (putMid a b out) (m .out-is) ∙ put-same a b out in (
@@ -99,17 +99,17 @@ module _ (p : Plan) (sys : System) (single : Memory) (first : ℕ) (rest out₀ 
       stop-by (some l) q m t = absurd (clash (m .taken-is) t)
 
       -- it is run: one line more
-      going-more : taken ≡ true → Going (k + 1) counters' cells' good' (putMid a b out to)
+      going-more : taken ≡ true → Going (k + 1) counters' cells' good' seen' (putMid a b out to)
       going-more = more-by lineTold refl made-here
 
       -- it is refused: no line more
-      going-stopped : taken ≡ false → Going k counters' cells' good' (putMid a b out to) × (frames p sys single first rest ≡ k)
+      going-stopped : taken ≡ false → Going k counters' cells' good' seen' (putMid a b out to) × (frames p sys single first rest ≡ k)
       going-stopped = stop-by lineTold refl made-here
 
     -- what is handed back where the run stops
     module _ (period : ℕ) (r : Printed) {to : ℕ} (e : to ≡ k * width) where
       abbrev Stopped : Answer → Type 0
-      Stopped answer = (y : System) → Rows y counters cells good → r ≡ printedWith answer to p period y (memoryIn counters cells 0) (first + k)
+      Stopped answer = (y : System) → Rows y counters cells good seen → r ≡ printedWith answer to p period y (memoryIn counters cells 0) (first + k)
 
       told : (answer : Answer) → Stopped answer → r ≡ printedWith answer (k * width) p period here alone (first + k)
       told answer f =
@@ -129,7 +129,7 @@ module _ (p : Plan) (sys : System) (single : Memory) (first : ℕ) (rest out₀ 
 -- ---- between two lines
 
 -- before line k: the places, the buffers, and the run so far, whatever record and single controller the rows held at first
-pub record Between (p : Plan) (s : Sizes) (first : ℕ) (rest counters₀ cells₀ good₀ out₀ : List ℕ) (k at to : ℕ) (held faults counters cells good out : List ℕ) : Type 0 where
+pub record Between (p : Plan) (s : Sizes) (first : ℕ) (rest counters₀ cells₀ good₀ seen₀ out₀ : List ℕ) (k at to : ℕ) (held faults counters cells good seen out : List ℕ) : Type 0 where
   pub at-is : at ≡ k * runLineSize (p .sensors)
   pub to-is : to ≡ k * printedSize (p .actuators)
   pub few : first + k ≤ mostRunLines
@@ -139,9 +139,9 @@ pub record Between (p : Plan) (s : Sizes) (first : ℕ) (rest counters₀ cells�
   pub held-long : length held ≡ mostNodes
   pub faults-long : length faults ≡ faultsSize s
   pub parts : Held s held faults
-  pub going : (sys : System) (single : Memory) → Rows sys counters₀ cells₀ good₀ → memoryIn counters₀ cells₀ 0 ≡ single → Going p sys single first rest out₀ k counters cells good out
+  pub going : (sys : System) (single : Memory) → Rows sys counters₀ cells₀ good₀ seen₀ → memoryIn counters₀ cells₀ 0 ≡ single → Going p sys single first rest out₀ k counters cells good seen out
 
-module _ {p : Plan} {s : Sizes} {first : ℕ} {rest counters₀ cells₀ good₀ out₀ : List ℕ} {k at to : ℕ} {held faults counters cells good out : List ℕ} (i : Between p s first rest counters₀ cells₀ good₀ out₀ k at to held faults counters cells good out) where
+module _ {p : Plan} {s : Sizes} {first : ℕ} {rest counters₀ cells₀ good₀ seen₀ out₀ : List ℕ} {k at to : ℕ} {held faults counters cells good seen out : List ℕ} (i : Between p s first rest counters₀ cells₀ good₀ seen₀ out₀ k at to held faults counters cells good seen out) where
   -- the place of line k
   pub line-room :
       {width : ℕ} →
@@ -158,28 +158,28 @@ module _ {p : Plan} {s : Sizes} {first : ℕ} {rest counters₀ cells₀ good₀
   place-lent {width} w f = part-length out to (to + width - to) (printedSize (p .actuators)) (omega arith) (omega arith)
 
   -- line k, read and made
-  module _ {size width end : ℕ} {o : Option (List ℕ)} {taken : Bool} {counters' cells' good' place : List ℕ}
+  module _ {size width end : ℕ} {o : Option (List ℕ)} {taken : Bool} {counters' cells' good' seen' place : List ℕ}
       (es : size ≡ runLineSize (p .sensors))
       (ew : width ≡ printedSize (p .actuators))
       (ee : end ≡ min (at + size) (length rest))
       (l : at < length rest)
       (told : o ≡ lineNumbers p (first + k) (take (end - at) (drop at rest)))
-      (made : (y : System) → Rows y counters cells good → LineMade p y (memoryIn counters cells 0) (first + k) o (take (to + width - to) (drop to out)) taken counters' cells' good' place) where
+      (made : (y : System) → Rows y counters cells good seen → LineMade p y (memoryIn counters cells 0) (first + k) o (take (to + width - to) (drop to out)) taken counters' cells' good' seen' place) where
     lent : to + width - to ≡ printedSize (p .actuators)
     lent = omega (arith, ew)
 
     -- the rows at first
-    module _ (sys : System) (single : Memory) (h : Rows sys counters₀ cells₀ good₀) (m : memoryIn counters₀ cells₀ 0 ≡ single) where
+    module _ (sys : System) (single : Memory) (h : Rows sys counters₀ cells₀ good₀ seen₀) (m : memoryIn counters₀ cells₀ 0 ≡ single) where
       same : take (end - at) (drop at rest) ≡ lineBytes p sys single first rest k
       same = line-bytes rest k (runLineSize (p .sensors)) (i .at-is) es ee (omega arith)
 
-      goes-on : taken ≡ true → Going p sys single first rest out₀ (k + 1) counters' cells' good' (putMid to (to + width - to) out place)
+      goes-on : taken ≡ true → Going p sys single first rest out₀ (k + 1) counters' cells' good' seen' (putMid to (to + width - to) out place)
       goes-on = going-more p sys single first rest out₀ (i .going sys single h m) (take (end - at) (drop at rest)) place same told (i .to-is) lent made
 
       pub line-refused :
           taken ≡ false →
           (period : ℕ) (r : Printed) →
-          ((y : System) → Rows y counters' cells' good' → r ≡ printedWith (RunLine (first + k + 1)) to p period y (memoryIn counters' cells' 0) (first + k)) →
+          ((y : System) → Rows y counters' cells' good' seen' → r ≡ printedWith (RunLine (first + k + 1)) to p period y (memoryIn counters' cells' 0) (first + k)) →
           (r ≡ linesAnswer (runOf p period sys single first) rest) × (putMid to (to + width - to) out place ≡ linesPlace (runOf p period sys single first) rest out₀)
       line-refused t period r f =
           let g = going-stopped p sys single first rest out₀ (i .going sys single h m) (take (end - at) (drop at rest)) place same told (i .to-is) lent made t in
@@ -187,7 +187,7 @@ module _ {p : Plan} {s : Sizes} {first : ℕ} {rest counters₀ cells₀ good₀
 
     pub line-run :
         {held' faults' : List ℕ} (sys : System) (single : Memory) →
-        Rows sys counters₀ cells₀ good₀ →
+        Rows sys counters₀ cells₀ good₀ seen₀ →
         memoryIn counters₀ cells₀ 0 ≡ single →
         taken ≡ true →
         length place ≡ length (take (to + width - to) (drop to out)) →
@@ -196,7 +196,7 @@ module _ {p : Plan} {s : Sizes} {first : ℕ} {rest counters₀ cells₀ good₀
         length held' ≡ mostNodes →
         length faults' ≡ length faults →
         Held s held' faults' →
-        Between p s first rest counters₀ cells₀ good₀ out₀ (k + 1) (at + size) (to + width) held' faults' counters' cells' good' (putMid to (to + width - to) out place)
+        Between p s first rest counters₀ cells₀ good₀ seen₀ out₀ (k + 1) (at + size) (to + width) held' faults' counters' cells' good' seen' (putMid to (to + width - to) out place)
     line-run sys single h m t a b c d e f =
         record {
           at-is = one-more k (runLineSize (p .sensors)) (i .at-is) es;
@@ -214,10 +214,10 @@ module _ {p : Plan} {s : Sizes} {first : ℕ} {rest counters₀ cells₀ good₀
   -- nothing is left
   pub lines-ended :
       (sys : System) (single : Memory) →
-      Rows sys counters₀ cells₀ good₀ →
+      Rows sys counters₀ cells₀ good₀ seen₀ →
       memoryIn counters₀ cells₀ 0 ≡ single →
       length rest ≤ at →
       (period : ℕ) (r : Printed) →
-      ((y : System) → Rows y counters cells good → r ≡ printedWith Done to p period y (memoryIn counters cells 0) (first + k)) →
+      ((y : System) → Rows y counters cells good seen → r ≡ printedWith Done to p period y (memoryIn counters cells 0) (first + k)) →
       (r ≡ linesAnswer (runOf p period sys single first) rest) × (out ≡ linesPlace (runOf p period sys single first) rest out₀)
   lines-ended sys single h m l period r f = stopped-ended p sys single first rest out₀ (i .going sys single h m) period r (i .to-is) (omega (arith, i .at-is)) f

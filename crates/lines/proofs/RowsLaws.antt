@@ -5,9 +5,8 @@ use mathlib.Core.List.{List, [], _∷_, _++_}
 use mathlib.Core.Option.{Option, none, some}
 use Prim.Native.Nat.{ℕ, _+_, _-_, _≤_, _<_}
 use native.Mathlib.Omega.{arith}
-use lib.ListN.{length, getD, take, drop, replicate}
-use borrow.Rule.Slice.PartMut.{putMid}
-use Rattle.array.specs.Index.{howMany}
+use lib.ListN.{length, getD, take, replicate, length-replicate}
+use Rattle.array.specs.Index.{howMany, from}
 use Rattle.array.specs.Bit.{bit}
 use Rattle.column.specs.Row.{row}
 use Rattle.plan.specs.declared.Plan.{Plan}
@@ -21,6 +20,7 @@ use Rattle.system.specs.Counts.{isWorking}
 use Rattle.system.specs.Fault.{faultSize, faultsSize, faultAt}
 use Rattle.system.specs.Frame.{systemAfter, placeAfter, frameAgreement}
 use Rattle.system.proofs.FaultsOfBadLaws.{faults-of-bad}
+use Rattle.system.proofs.SeenLaws.{place-seen}
 use Rattle.faults.specs.Code.{BadHold}
 use Rattle.faults.proofs.LayoutLaws.{held-fills}
 use Rattle.rows.specs.Code.{memoryIn, Rows, sameRow}
@@ -32,7 +32,7 @@ use Rattle.run_line.specs.Listing.{lineNumbers, faultBytes, systemNext, singleA
 use Rattle.run_line.specs.Code.{lineRead}
 use Rattle.lines.specs.declared.step.Stepped.{Stepped}
 use Rattle.lines.specs.Code.{stepAnswer, stepPlace, OfLine, LineMade}
-use Rattle.lines.proofs.StepLaws.{line-early, line-in-time, planes-lent, Within, numbers-within, take-fits}
+use Rattle.lines.proofs.StepLaws.{line-early, line-in-time, Within, numbers-within, take-fits}
 
 -- ---- a frame and its line
 
@@ -51,8 +51,8 @@ module _ (p : Plan) (s : Sizes) (e : s ≡ sizesOf p) (sys : System) (vs : List 
     unfolding systemNext faultBytes
     next-is = faults-of-bad p sys vs mask faults (replicate (faultsSize (sizesOf p)) x) same-bytes .0
 
-    pub rows-next : {counters cells good : List ℕ} → Rows (systemAfter p sys vs mask faults) counters cells good → Rows (systemNext p sys numbers) counters cells good
-    rows-next {counters} {cells} {good} = subst (λ (t : System). Rows t counters cells good) next-is
+    pub rows-next : {counters cells good seen : List ℕ} → Rows (systemAfter p sys vs mask faults) counters cells good seen → Rows (systemNext p sys numbers) counters cells good seen
+    rows-next {counters} {cells} {good} {seen} = subst (λ (t : System). Rows t counters cells good seen) next-is
 
     planes-are : placeAfter p sys vs mask faults (replicate (p .actuators) 0) ≡ planeValues p sys numbers
     unfolding planeValues faultBytes
@@ -62,35 +62,33 @@ module _ (p : Plan) (s : Sizes) (e : s ≡ sizesOf p) (sys : System) (vs : List 
     unfolding agreement faultBytes
     agreement-is h = h ∙ faults-of-bad p sys vs mask faults (replicate (faultsSize (sizesOf p)) x) same-bytes .2
 
-    -- the plane values in the front of their array
+    -- the plane values in the front of what is seen
     pub planes-read :
-        (zeros place : List ℕ) →
-        zeros ≡ replicate mostActuators 0 →
+        {counters cells good seen : List ℕ} →
         p .actuators ≤ mostActuators →
-        place ≡ placeAfter p sys vs mask faults (take (s .actuators - 0) (drop 0 zeros)) →
-        take (s .actuators) (putMid 0 (s .actuators - 0) zeros place) ≡ planeValues p sys numbers
-    planes-read zeros place z l =
-        subst
-        (λ (n : ℕ).
-        place ≡ placeAfter p sys vs mask faults (take (n - 0) (drop 0 zeros)) →
-        take n (putMid 0 (n - 0) zeros place) ≡ planeValues p sys numbers)
-        (ap (λ (t : Sizes). t .actuators) (sym e))
-        (λ f. planes-lent p sys vs faults zeros place mask z l f ∙ planes-are)
+        length (sys .seen .handed) ≡ mostActuators →
+        Rows (systemAfter p sys vs mask faults) counters cells good seen →
+        from 0 seen 0 (s .actuators) ≡ planeValues p sys numbers
+    planes-read {counters} {cells} {good} {seen} few long after =
+        ap (λ (t : Sizes). from 0 seen 0 (t .actuators)) e
+        ∙ ap (λ (l : List ℕ). from 0 l 0 (p .actuators)) (after .seen-is)
+        ∙ sym (place-seen p sys vs mask faults (replicate (p .actuators) 0) (length-replicate (p .actuators) 0) (omega arith))
+        ∙ planes-are
 
   pub working-is : (good : List ℕ) → good ≡ sys .good → howMany (isWorking (s .period) mask good) (s .nodes) ≡ working p sys numbers
   unfolding working
   working-is good f = rw (e, f)
 
   pub same-rows :
-      (single : Memory) (counters cells good : List ℕ) →
+      (single : Memory) (counters cells good seen : List ℕ) →
       p .nodes ≤ mostNodes →
-      Rows (systemNext p sys numbers) counters cells good →
+      Rows (systemNext p sys numbers) counters cells good seen →
       memoryIn counters cells 0 ≡ singleAfter p single numbers →
       howMany (λ j. sameRow (s .cells) counters cells (j + 1)) (s .nodes) ≡ equal p (systemNext p sys numbers) (singleAfter p single numbers)
   unfolding equal
-  same-rows single counters cells good few h f =
+  same-rows single counters cells good seen few h f =
       ap (λ (t : Sizes). howMany (λ j. sameRow (t .cells) counters cells (j + 1)) (t .nodes)) e
-      ∙ equal-is p (systemNext p sys numbers) (singleAfter p single numbers) counters cells good (p .nodes) h f refl few
+      ∙ equal-is p (systemNext p sys numbers) (singleAfter p single numbers) counters cells good seen (p .nodes) h f refl few
 
   pub line-is :
       (single : Memory) (frame : ℕ) {w g a : ℕ} {out us : List ℕ} →
@@ -131,38 +129,38 @@ module _ (p : Plan) (s : Sizes) (e : s ≡ sizesOf p) (frame : ℕ) (patterns : 
 
 -- ---- what a line makes of rows
 
-module _ (p : Plan) (sys : System) (single : Memory) (frame : ℕ) (place : List ℕ) {o : Option (List ℕ)} {counters cells good : List ℕ} where
-  pub made-refused : o ≡ none → Rows sys counters cells good → memoryIn counters cells 0 ≡ single → LineMade p sys single frame o place false counters cells good place
+module _ (p : Plan) (sys : System) (single : Memory) (frame : ℕ) (place : List ℕ) {o : Option (List ℕ)} {counters cells good seen : List ℕ} where
+  pub made-refused : o ≡ none → Rows sys counters cells good seen → memoryIn counters cells 0 ≡ single → LineMade p sys single frame o place false counters cells good seen place
   unfolding stepAnswer stepPlace
   made-refused e h m =
-      subst (λ (x : Option (List ℕ)). LineMade p sys single frame x place false counters cells good place) (sym e)
+      subst (λ (x : Option (List ℕ)). LineMade p sys single frame x place false counters cells good seen place) (sym e)
       (record { taken-is = refl; rows = h; first-row = m; out-is = refl })
 
   pub made-run :
       (l : List ℕ) {out : List ℕ} →
       o ≡ some l →
-      Rows (systemNext p sys l) counters cells good →
+      Rows (systemNext p sys l) counters cells good seen →
       memoryIn counters cells 0 ≡ singleAfter p single l →
       out ≡ frameLine p sys single frame l →
-      LineMade p sys single frame o place true counters cells good out
+      LineMade p sys single frame o place true counters cells good seen out
   unfolding stepAnswer stepPlace
   made-run l {out} e h m f =
-      subst (λ (x : Option (List ℕ)). LineMade p sys single frame x place true counters cells good out) (sym e)
+      subst (λ (x : Option (List ℕ)). LineMade p sys single frame x place true counters cells good seen out) (sym e)
       (record { taken-is = refl; rows = h; first-row = m; out-is = f })
 
 -- what is put together again after it
 pub step-made :
-    (p : Plan) (sys : System) (single : Memory) (frame : ℕ) (place : List ℕ) (r : Stepped) {before : Memory} {o numbers : Option (List ℕ)} {counters cells good out : List ℕ} →
+    (p : Plan) (sys : System) (single : Memory) (frame : ℕ) (place : List ℕ) (r : Stepped) {before : Memory} {o numbers : Option (List ℕ)} {counters cells good seen out : List ℕ} →
     before ≡ single →
     o ≡ numbers →
-    LineMade p sys before frame o place (r .taken) counters cells good out →
-    ((y : System) → Rows y counters cells good → r .system ≡ y) →
+    LineMade p sys before frame o place (r .taken) counters cells good seen out →
+    ((y : System) → Rows y counters cells good seen → r .system ≡ y) →
     r .single ≡ memoryIn counters cells 0 →
     (r ≡ stepAnswer p sys single numbers) × (out ≡ stepPlace p sys single frame numbers place)
-step-made p sys single frame place r {before} {o} {numbers} {counters} {cells} {good} {out} b e made f g =
-    let m : LineMade p sys single frame numbers place (r .taken) counters cells good out =
-    subst (λ (x : Option (List ℕ)). LineMade p sys single frame x place (r .taken) counters cells good out) e
-    (subst (λ (x : Memory). LineMade p sys x frame o place (r .taken) counters cells good out) b made) in
+step-made p sys single frame place r {before} {o} {numbers} {counters} {cells} {good} {seen} {out} b e made f g =
+    let m : LineMade p sys single frame numbers place (r .taken) counters cells good seen out =
+    subst (λ (x : Option (List ℕ)). LineMade p sys single frame x place (r .taken) counters cells good seen out) e
+    (subst (λ (x : Memory). LineMade p sys x frame o place (r .taken) counters cells good seen out) b made) in
     let s = f _ (m .rows) in
     let t = g ∙ m .first-row in
     ((λ i. record { taken = m .taken-is i; system = s i; single = t i }), m .out-is)

@@ -2,43 +2,26 @@
 use mathlib.Core.Path.{_≡_, refl, sym, ap, _∙_}
 use mathlib.Core.Bool.{Bool, true, false, cond, _&&_}
 use mathlib.Core.List.{List, [], _∷_}
-use mathlib.Core.Option.{Option, none, some, Option·getD}
+use mathlib.Core.Option.{Option, none, some}
 use Prim.Native.Nat.{ℕ, zero, suc, _+_, _-_, _^_, _≤_, _<_, min}
 use native.Mathlib.Omega.{arith}
 use native.Mathlib.Nat.{min-eq-left, min-eq-right}
 use lib.Dec.{leb, ltb}
-use lib.ListN.{length, take, drop, replicate, length-replicate, length-drop}
-use lib.Seq.{length-take-le, take-nil, take-all, take-at}
+use lib.ListN.{length, take, drop, length-replicate, length-drop}
+use lib.Seq.{length-take-le, take-nil, take-all}
 use borrow.Author.Tests.{le-ltb, lt-ltb, ltb-true, ltb-false, leb-true, leb-false}
-use borrow.Rule.Slice.PartMut.{putMid, same-len-mid}
-use Rattle.array.specs.Index.{fill}
 use Rattle.array.proofs.TestLaws.{split, clash, and-right}
-use Rattle.array.proofs.PlacesLaws.{fill-length}
 use Rattle.column.specs.Row.{numbersShown}
 use Rattle.column.proofs.RowLaws.{total, room-count, room-of-numbers, numbers-length}
 use Rattle.plan.specs.declared.Plan.{Plan}
-use Rattle.plan.specs.Limits.{mostActuators}
-use Rattle.ballot.specs.Plane.{plane}
 use Rattle.memory.specs.declared.Memory.{Memory}
 use Rattle.system.specs.declared.System.{System}
-use Rattle.system.specs.Frame.{putOut, placeAfter}
 use Rattle.run_line.specs.Line.{patternWidth, runWidths, runLineSize, maskIn, fillIn, inLimits, runNumbers}
 use Rattle.run_line.specs.Listing.{mostRunLines, lineNumbers}
 use Rattle.run_line.proofs.ReadingLaws.{length-bad}
 use Rattle.run_line.proofs.WritingLaws.{total-of-columns}
 use Rattle.lines.specs.declared.step.Stepped.{Stepped}
 use Rattle.lines.specs.Code.{stepAnswer}
-
--- ---- the plane values
-
-pub take-replicate : (n m x : ℕ) → n ≤ m → take n (replicate m x) ≡ replicate n x
-take-replicate zero m x l = refl
-take-replicate (suc n) zero x l = absurd (omega arith)
-take-replicate (suc n) (suc m) x l = ap (λ (t : List ℕ). x ∷ t) (take-replicate n m x (omega arith))
-
--- a lent front comes back
-pub front-back : (xs ys : List ℕ) (n : ℕ) → length ys ≡ n → take n (putMid 0 (n - 0) xs ys) ≡ ys
-front-back xs ys n e = take-at ys (drop (n - 0) xs) n e
 
 -- ---- the part of a run that is one line
 
@@ -59,31 +42,6 @@ first-line l size e = rw e (part-taken l 0 size (omega arith))
 -- a front that is lent
 pub front-length : (out : List ℕ) {n m : ℕ} → n ≡ m → m ≤ length out → length (take (n - 0) out) ≡ m
 front-length out {n} {m} e l = let z : n - 0 ≡ m = omega (arith, e) in rw z (length-take-le m out l)
-
--- what is put back into the front has room there
-pub front-fits : (zeros place : List ℕ) {n : ℕ} → length place ≡ length (take (n - 0) (drop 0 zeros)) → n ≤ length zeros → n ≤ length (putMid 0 (n - 0) zeros place)
-front-fits zeros place {n} e l = omega (arith, same-len-mid 0 (n - 0) zeros place e)
-
--- ---- the frame of a line
-
-module _ (p : Plan) (sys : System) (sensors faults zeros place : List ℕ) (mask : ℕ) where
-  -- what the plane hands on for an actuator
-  abbrev handed : ℕ → ℕ
-  handed a = Option·getD (plane (putOut p sys sensors mask faults a) (p .nodes)) 0
-
-  -- the plane values, of a place that was zero
-  pub planes-lent :
-      zeros ≡ replicate mostActuators 0 →
-      p .actuators ≤ mostActuators →
-      place ≡ placeAfter p sys sensors mask faults (take (p .actuators - 0) (drop 0 zeros)) →
-      take (p .actuators) (putMid 0 (p .actuators - 0) zeros place) ≡ placeAfter p sys sensors mask faults (replicate (p .actuators) 0)
-  unfolding placeAfter
-  planes-lent z l e =
-      let n : p .actuators - 0 ≡ p .actuators = omega arith in
-      let t : take (p .actuators - 0) (drop 0 zeros) ≡ replicate (p .actuators) 0 = rw (n, z) (take-replicate (p .actuators) mostActuators 0 l) in
-      let k : length place ≡ p .actuators =
-      ap length e ∙ fill-length handed (p .actuators) (take (p .actuators - 0) (drop 0 zeros)) ∙ ap length t ∙ length-replicate (p .actuators) 0 in
-      front-back zeros place (p .actuators) k ∙ e ∙ ap (fill handed (p .actuators)) t
 
 -- ---- the line's numbers
 

@@ -35,9 +35,9 @@ OfLine p frame numbers = (line : List ℕ) × (numbers ≡ lineNumbers p frame l
 
 -- what a line makes of rows that hold a record, with the single controller in row 0: whether it is run, and what rows and place hold then
 module _ (p : Plan) (sys : System) (single : Memory) (frame : ℕ) (numbers : Option (List ℕ)) (place : List ℕ) where
-  pub record LineMade (taken : Bool) (counters cells good out : List ℕ) : Type 0 where
+  pub record LineMade (taken : Bool) (counters cells good seen out : List ℕ) : Type 0 where
     pub taken-is : taken ≡ stepAnswer p sys single numbers .taken
-    pub rows : Rows (stepAnswer p sys single numbers .system) counters cells good
+    pub rows : Rows (stepAnswer p sys single numbers .system) counters cells good seen
     pub first-row : memoryIn counters cells 0 ≡ stepAnswer p sys single numbers .single
     pub out-is : out ≡ stepPlace p sys single frame numbers place
 

@@ -58,15 +58,15 @@ fn finish_line(
     counters: &mut [u16],
     cells: &mut [u64],
     good: &mut [u16; System::NODES],
+    seen: &mut [u64; rows::step::SEEN],
     out: &mut [u8],
 )
     requires { ⌜ (accepted plan ≡ true) × (s ≡ sizesOf plan) × (length (now sensors) ≡ plan .sensors) × Parts s mask (length (now faults)) × (length (now counters) ≡ rowCount) × (length (now cells) ≡ wordCount) × (length (now out) ≡ printedSize (plan .actuators)) × (now cams ≡ camTable) ⌝ }
-    ensures { λ _. ⌜ ((sys : System) (x : ℕ) → Rows sys (now (counters .entry)) (now (cells .entry)) (now (good .entry)) → BadHold s mask (now (faults .entry)) x → Rows (systemNext plan sys (mask ∷ x ∷ now (sensors .entry))) (now (counters .exit)) (now (cells .exit)) (now (good .exit)) × (memoryIn (now (counters .exit)) (now (cells .exit)) 0 ≡ singleAfter plan (memoryIn (now (counters .entry)) (now (cells .entry)) 0) (mask ∷ x ∷ now (sensors .entry))) × (now (out .exit) ≡ frameLine plan sys (memoryIn (now (counters .entry)) (now (cells .entry)) 0) frame (mask ∷ x ∷ now (sensors .entry)))) ⌝ }
+    ensures { λ _. ⌜ ((sys : System) (x : ℕ) → Rows sys (now (counters .entry)) (now (cells .entry)) (now (good .entry)) (now (seen .entry)) → BadHold s mask (now (faults .entry)) x → Rows (systemNext plan sys (mask ∷ x ∷ now (sensors .entry))) (now (counters .exit)) (now (cells .exit)) (now (good .exit)) (now (seen .exit)) × (memoryIn (now (counters .exit)) (now (cells .exit)) 0 ≡ singleAfter plan (memoryIn (now (counters .entry)) (now (cells .entry)) 0) (mask ∷ x ∷ now (sensors .entry))) × (now (out .exit) ≡ frameLine plan sys (memoryIn (now (counters .entry)) (now (cells .entry)) 0) frame (mask ∷ x ∷ now (sensors .entry)))) ⌝ }
 {
     let nodes = s.nodes;
     let actuators = s.actuators;
     let working = counts::step::working(good, nodes, s.period, mask);
-    let mut values = [0u64; Plan::ACTUATORS];
     let agreement = row_frame::step::frame(
         plan,
         s,
@@ -78,10 +78,10 @@ fn finish_line(
         counters,
         cells,
         good,
-        &mut values[0..actuators],
+        seen,
     );
     let equal = rows::step::equal(counters, cells, nodes, s.cells);
-    run_line::step::write_frame(out, frame, working, equal, &values, actuators, agreement);
+    run_line::step::write_frame(out, frame, working, equal, seen, actuators, agreement);
 }
 
 // What was read of a line, on rows: a frame and its line, or nothing where the line is refused. Each node's part of `faults` holds the byte that `held` has
@@ -98,10 +98,11 @@ fn line_on_rows(
     counters: &mut [u16],
     cells: &mut [u64],
     good: &mut [u16; System::NODES],
+    seen: &mut [u64; rows::step::SEEN],
     out: &mut [u8],
 ) -> bool
     requires { ⌜ (accepted plan ≡ true) × (s ≡ sizesOf plan) × OfLine plan frame (lineRead read (take (plan .sensors) (now patterns))) × (length (now held) ≡ mostNodes) × (length (now faults) ≡ faultsSize s) × Held s (now held) (now faults) × (length (now counters) ≡ rowCount) × (length (now cells) ≡ wordCount) × (length (now out) ≡ printedSize (plan .actuators)) × (now cams ≡ camTable) ⌝ }
-    ensures { λ r. ⌜ (length (now (held .exit)) ≡ mostNodes) × Held s (now (held .exit)) (now (faults .exit)) × ((sys : System) → Rows sys (now (counters .entry)) (now (cells .entry)) (now (good .entry)) → LineMade plan sys (memoryIn (now (counters .entry)) (now (cells .entry)) 0) frame (lineRead read (take (plan .sensors) (now (patterns .entry)))) (now (out .entry)) r (now (counters .exit)) (now (cells .exit)) (now (good .exit)) (now (out .exit))) ⌝ }
+    ensures { λ r. ⌜ (length (now (held .exit)) ≡ mostNodes) × Held s (now (held .exit)) (now (faults .exit)) × ((sys : System) → Rows sys (now (counters .entry)) (now (cells .entry)) (now (good .entry)) (now (seen .entry)) → LineMade plan sys (memoryIn (now (counters .entry)) (now (cells .entry)) 0) frame (lineRead read (take (plan .sensors) (now (patterns .entry)))) (now (out .entry)) r (now (counters .exit)) (now (cells .exit)) (now (good .exit)) (now (seen .exit)) (now (out .exit))) ⌝ }
 {
     let LineRead::Whole(mask, fill) = read else {
         return false;
@@ -120,6 +121,7 @@ fn line_on_rows(
         counters,
         cells,
         good,
+        seen,
         out,
     );
     true
@@ -150,6 +152,7 @@ pub fn line(
     rows::step::unpack(system, &mut counters, &mut cells);
     let mut patterns = [0u64; Plan::SENSORS];
     let read = run_line::step::frame_numbers(frame, line, plan.nodes, plan.sensors, &mut patterns);
+    let mut seen = rows::step::seen_words(system.seen);
     let taken = line_on_rows(
         plan,
         s,
@@ -162,9 +165,10 @@ pub fn line(
         &mut counters,
         &mut cells,
         &mut good,
+        &mut seen,
         out,
     );
-    let after = rows::step::pack(&counters, &cells, good);
+    let after = rows::step::pack(&counters, &cells, good, seen);
     let memory = rows::step::memory(0, &counters, &cells);
     Stepped {
         taken,
@@ -182,12 +186,13 @@ fn stopped(
     counters: &[u16],
     cells: &[u64],
     good: [u16; System::NODES],
+    seen: [u64; rows::step::SEEN],
     frame: usize,
 ) -> Printed
     requires { ⌜ (length (now counters) ≡ rowCount) × (length (now cells) ≡ wordCount) ⌝ }
-    ensures { λ r. ⌜ ((sys : System) → Rows sys (now (counters .entry)) (now (cells .entry)) good → r ≡ printedWith answer count plan period sys (memoryIn (now (counters .entry)) (now (cells .entry)) 0) frame) ⌝ }
+    ensures { λ r. ⌜ ((sys : System) → Rows sys (now (counters .entry)) (now (cells .entry)) good seen → r ≡ printedWith answer count plan period sys (memoryIn (now (counters .entry)) (now (cells .entry)) 0) frame) ⌝ }
 {
-    let system = rows::step::pack(counters, cells, good);
+    let system = rows::step::pack(counters, cells, good, seen);
     let single = rows::step::memory(0, counters, cells);
     let run = Run {
         plan,
@@ -222,6 +227,7 @@ pub fn lines(
     let cams = cam::table();
     let s = plan::sizes_with(plan, period);
     let mut good = system.good;
+    let mut seen = rows::step::seen_words(system.seen);
     let mut counters = [0u16; rows::step::ROWS];
     let mut cells = [0u64; rows::step::WORDS];
     rows::step::put_memory(single, 0, &mut counters, &mut cells);
@@ -252,6 +258,7 @@ pub fn lines(
             &mut counters,
             &mut cells,
             &mut good,
+            &mut seen,
             &mut out[to..to + width],
         ) {
             return stopped(
@@ -262,6 +269,7 @@ pub fn lines(
                 &counters,
                 &cells,
                 good,
+                seen,
                 frame,
             );
         }
@@ -277,6 +285,7 @@ pub fn lines(
         &counters,
         &cells,
         good,
+        seen,
         first + k,
     )
 }

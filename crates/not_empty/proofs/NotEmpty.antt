@@ -1,6 +1,7 @@
 -- Demand 3 is not empty, by computation. Document 01's run of plan K meets the premise, and the plane's values are the listing's. So does a list with
 -- refused calls, a node that tells each neighbour something else, and its recovery. Without the premise, or without its R frames, the demand is false. With two controllers (request
--- 2026-04) a run without faults meets it, and with one of them bad the demand is false; one that a fault left in another frame is there for ever.
+-- 2026-04) a run without faults meets it, and of one in whose second frame a controller is bad the demand is
+-- false; a controller that a fault left in another frame is there for ever.
 use mathlib.Core.Path.{_≡_, refl, sym, ap, _∙_}
 use mathlib.Core.Bool.{Bool, true, false}
 use mathlib.Core.List.{List, [], _∷_, _++_}
@@ -26,12 +27,12 @@ use Rattle.plan.specs.Sizes.{sizesOf}
 use Rattle.plan.specs.Accepted.{headerOk, constantsOk, opOk, taskOk, isZeroTake, isUnused, notFalling, taskEntry, initialEntry, voteEntry, actuatorEntry, entriesOk, opStorable, storable, wellFormed, accepted}
 use Rattle.task.specs.Task.{opValue, runTask, runTasks}
 use Rattle.ballot.specs.Majority.{holds, holders, backing, shared, firstShared, majority, agreement, orOwn}
-use Rattle.ballot.specs.Plane.{mostHeld, plane}
+use Rattle.ballot.specs.Plane.{mostHeld, noneMore, plane}
 use Rattle.memory.specs.Node.{poweredOn, computed, before, sentCell, messageOf, binOf, counterFrom, cellFrom, counterIn, cellIn, votedCounter, votedCell, voted, voteAgreement, setpoint}
-use Rattle.system.specs.System.{powerOn}
+use Rattle.system.specs.System.{firstHanded, powerOn}
 use Rattle.system.specs.Fault.{faultMemory, faultMessage, faultSetpoint}
 use Rattle.system.specs.Counts.{countAfter, goodAfter}
-use Rattle.system.specs.Frame.{memoryOf, computedBy, heard, mailboxOf, memoryAfter, putOut, systemAfter, placeAfter, agreementBy, frameAgreement}
+use Rattle.system.specs.Frame.{memoryOf, computedBy, heard, mailboxOf, memoryAfter, putOut, handedOn, systemAfter, placeAfter, agreementBy, frameAgreement}
 use Rattle.system.specs.Single.{singlePlace}
 use Rattle.system.specs.FrameCall.{maskOk, countsOk, lengthsOk, frameTests, frameAnswer, framePlace}
 use Rattle.system.specs.Demand.{Call, callLengths, callTests, callAnswer, isFrame, next, answers, places, finally, singleNext, singlePlaces, singleFinally, callAnswers, masks, goodIn, MostGood, Premise, OnePlan, Tolerated}
@@ -279,8 +280,8 @@ outside : List Call
 outside = call planK 3 filled one (lit< tt) ∷ []
 
 outside-places : places (powerOn planK) outside ≡ (18446744073709551615 ∷ []) ∷ []
-unfolding passed ifPassed places framePlace frameTests countsOk maskOk lengthsOk outside call filled powerOn poweredOn placeAfter memoryAfter putOut computedBy heard mailboxOf
-    faultMemory faultMessage faultSetpoint plane mostHeld backing computed messageOf binOf sentCell before voted votedCounter votedCell orOwn counterFrom
+unfolding passed ifPassed places framePlace frameTests countsOk maskOk lengthsOk outside call filled powerOn firstHanded poweredOn placeAfter handedOn memoryAfter
+    putOut computedBy heard mailboxOf faultMemory faultMessage faultSetpoint plane noneMore mostHeld backing computed messageOf binOf sentCell before voted votedCounter votedCell orOwn counterFrom
     cellFrom counterIn cellIn setpoint majority firstShared shared holders holds runTasks runTask opValue sumOf votedIn howMany fill joined from be bytes
     bit ofBits toBits isNan add
     planK plan voteK noVotes period periodTo allKnown known knowFrame knowVoted knowTasks knowTask readsKnown reads allIn allBelow
@@ -323,8 +324,8 @@ unfolding MostNow goodIn early call bit howMany planK plan
 early-now = (λ e. lit< tt, (λ e. lit< tt, tt))
 
 early-places : places (powerOn planK) early ≡ (0 ∷ []) ∷ (9221120237041090560 ∷ []) ∷ []
-unfolding passed ifPassed places next frameAnswer framePlace frameTests countsOk maskOk lengthsOk early call filled powerOn poweredOn systemAfter placeAfter memoryAfter
-    goodAfter countAfter putOut computedBy heard mailboxOf faultMemory faultMessage faultSetpoint plane mostHeld backing computed messageOf binOf sentCell
+unfolding passed ifPassed places next frameAnswer framePlace frameTests countsOk maskOk lengthsOk early call filled powerOn firstHanded poweredOn systemAfter placeAfter handedOn
+    memoryAfter goodAfter countAfter putOut computedBy heard mailboxOf faultMemory faultMessage faultSetpoint plane noneMore mostHeld backing computed messageOf binOf sentCell
     before voted votedCounter votedCell orOwn counterFrom cellFrom counterIn cellIn setpoint majority firstShared shared holders holds runTasks runTask
     opValue sumOf votedIn howMany fill joined from be bytes bit ofBits toBits isNan add planK plan voteK noVotes period periodTo allKnown known knowFrame
     knowVoted knowTasks knowTask readsKnown reads allIn allBelow
@@ -390,23 +391,23 @@ runTwo-single = rw planTwo-accepted refl
 pub runTwo-listing : places (powerOn planTwo) runTwo ≡ (0 ∷ []) ∷ (one ∷ []) ∷ (one ∷ []) ∷ (three ∷ []) ∷ []
 runTwo-listing = demand3 planTwo planTwo-accepted runTwo runTwo-plan runTwo-premise .setpoints ∙ runTwo-single
 
--- node 0 of two is bad: the plane hands on what it puts out
+-- node 0 of two is bad in the second frame, in which neither puts out the remembered 0: the plane hands on what node 0 puts out
 pub lostTwo : List Call
-lostTwo = call planTwo 1 filledTwo one (lit< tt) ∷ []
+lostTwo = call planTwo 0 filledTwo one (lit< tt) ∷ call planTwo 1 filledTwo one (lit< tt) ∷ []
 
 lostTwo-plan : OnePlan planTwo lostTwo
 unfolding OnePlan lostTwo call
-lostTwo-plan = (inl refl, tt)
+lostTwo-plan = (inl refl, (inl refl, tt))
 
-pub lostTwo-places : places (powerOn planTwo) lostTwo ≡ (18446744073709551615 ∷ []) ∷ []
-unfolding passed ifPassed places framePlace frameTests countsOk maskOk lengthsOk lostTwo call filledTwo powerOn poweredOn placeAfter memoryAfter putOut computedBy heard mailboxOf
-    faultMemory faultMessage faultSetpoint plane mostHeld backing computed messageOf binOf sentCell before voted votedCounter votedCell orOwn counterFrom
-    cellFrom counterIn cellIn setpoint majority firstShared shared holders holds runTasks runTask opValue sumOf votedIn howMany fill joined from be bytes
-    bit ofBits toBits isNan add
-    planTwo plan voteK noVotes period periodTo allKnown known knowFrame knowVoted knowTasks knowTask readsKnown reads allIn allBelow
+pub lostTwo-places : places (powerOn planTwo) lostTwo ≡ (0 ∷ []) ∷ (18446744073709551615 ∷ []) ∷ []
+unfolding passed ifPassed places next frameAnswer framePlace frameTests countsOk maskOk lengthsOk lostTwo call filledTwo powerOn firstHanded poweredOn systemAfter placeAfter
+    handedOn memoryAfter goodAfter countAfter putOut computedBy heard mailboxOf faultMemory faultMessage faultSetpoint plane noneMore mostHeld backing computed messageOf binOf
+    sentCell before voted votedCounter votedCell orOwn counterFrom cellFrom counterIn cellIn setpoint majority firstShared shared holders holds runTasks runTask
+    opValue sumOf votedIn howMany fill joined from be bytes bit ofBits toBits isNan add planTwo plan voteK noVotes period periodTo allKnown known knowFrame
+    knowVoted knowTasks knowTask readsKnown reads allIn allBelow
 lostTwo-places = rw planTwo-accepted refl
 
-lostTwo-single : singlePlaces (poweredOn planTwo) lostTwo ≡ (0 ∷ []) ∷ []
+lostTwo-single : singlePlaces (poweredOn planTwo) lostTwo ≡ (0 ∷ []) ∷ (one ∷ []) ∷ []
 unfolding singlePlaces singleNext passed isFrame callTests callLengths lengthsOk maskOk lostTwo call filledTwo poweredOn computed singlePlace setpoint
     runTasks runTask opValue sumOf fill ofBits toBits isNan add planTwo plan voteK noVotes
 lostTwo-single = rw planTwo-accepted refl
@@ -415,7 +416,7 @@ lostTwo-single = rw planTwo-accepted refl
 pub both-needed : ((p : Plan) → accepted p ≡ true → p .nodes ≡ 2 → (cs : List Call) → OnePlan p cs → Tolerated p cs) → ⊥
 unfolding valueIn planTwo plan
 both-needed demand =
-    omega (arith, ap (valueIn 0) (sym lostTwo-places ∙ demand planTwo planTwo-accepted refl lostTwo lostTwo-plan .setpoints ∙ lostTwo-single))
+    omega (arith, ap (valueIn 1) (sym lostTwo-places ∙ demand planTwo planTwo-accepted refl lostTwo lostTwo-plan .setpoints ∙ lostTwo-single))
 
 -- a fault leaves the only controller in frame 0, and the next is frame 1
 pub lostOne : List Call

@@ -46,7 +46,7 @@ fn put_run(nodes: usize, run: Run, words: &mut [u64])
 }
 
 // After a call: beside a refusal every word stays.
-pub fn give_run(answer: Answer, nodes: usize, run: Run, words: &mut [u64])
+pub fn give_run(answer: Answer, nodes: usize, run: Run, words: &mut [u64; RUN])
     requires { ⌜ (numberOf answer ≡ 0 → nodes ≤ mostNodes) ⌝ }
     ensures { λ _. ⌜ now (words .exit) ≡ runGiven answer nodes run (now (words .entry)) ⌝ }
 {

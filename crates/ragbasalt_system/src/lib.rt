@@ -7,7 +7,7 @@ ghost use Rattle.system_words.specs.Words.{codeOf, memoryAt, systemOfWords};
 ghost use Rattle.words_demand.specs.Calls.{startedBy, wordsStarted, framedBy, wordsFramed, placeFramed};
 use system::System;
 
-// All words are written: what lies past the plan's nodes and cells is zero.
+// All words are written: what lies past the plan's nodes, cells and actuators is zero.
 #[no_mangle]
 pub extern "C" fn ragbasalt_system_power_on(
     plan: &[u64; plan_words::step::SIZE],
@@ -22,7 +22,7 @@ pub extern "C" fn ragbasalt_system_power_on(
     system_words::step::code(answer)
 }
 
-// The words of the plan's nodes are those of the record after the frame; all others stay.
+// The words of the plan's nodes and of what the plane remembers are those of the record after the frame; all others stay.
 #[no_mangle]
 pub extern "C" fn ragbasalt_system_frame(
     plan: &[u64; plan_words::step::SIZE],

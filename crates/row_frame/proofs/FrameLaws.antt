@@ -1,4 +1,4 @@
--- Laws of a frame on rows: what every node hears is what its mailbox says, and the phases give the record and the place of the definitions.
+-- Laws of a frame on rows: what every node hears is what its mailbox says, and the phases give the record of the definitions.
 use mathlib.Core.Path.{_≡_, refl, sym, ap, _∙_, subst}
 use mathlib.Core.Bool.{Bool, true, false, cond}
 use mathlib.Core.List.{List}
@@ -17,7 +17,7 @@ use Rattle.array.proofs.LeastLaws.{least-same}
 use Rattle.array.proofs.PlacesLaws.{fill-length, fill-in, fill-out, fill-same}
 use Rattle.plan.specs.declared.Plan.{Plan}
 use Rattle.plan.specs.declared.Sizes.{Sizes}
-use Rattle.plan.specs.Limits.{mostNodes, mostFrames, mostCells}
+use Rattle.plan.specs.Limits.{mostNodes, mostFrames, mostCells, mostActuators}
 use Rattle.plan.specs.Known.{period}
 use Rattle.plan.specs.Tables.{votedIn}
 use Rattle.plan.specs.Accepted.{accepted}
@@ -25,7 +25,6 @@ use Rattle.plan.specs.Sizes.{sizesWith, sizesOf}
 use Rattle.plan.proofs.AcceptedLaws.{Shape, shape-of-accepted}
 use Rattle.plan_period.proofs.AnswerLaws.{period-small}
 use Rattle.ballot.specs.Majority.{majority, agreement, orOwn}
-use Rattle.ballot.specs.Plane.{plane}
 use Rattle.ballot.proofs.MajorityLaws.{majority-same}
 use Rattle.ballot.proofs.AgreementLaws.{agreement-same}
 use Rattle.ballot.proofs.PlaneLaws.{plane-same}
@@ -37,16 +36,16 @@ use Rattle.memory.proofs.NodeLaws.{computed-small, computed-length, computed-pa
 use Rattle.system.specs.declared.System.{System}
 use Rattle.system.specs.Fault.{faultAt, faultMessageAt, faultMemory, faultMessage}
 use Rattle.system.specs.Counts.{goodAfter}
-use Rattle.system.specs.Frame.{memoryOf, computedBy, heard, mailboxOf, memoryAfter, putOut, systemAfter, placeAfter, agreementBy, frameAgreement}
+use Rattle.system.specs.Frame.{memoryOf, computedBy, heard, mailboxOf, memoryAfter, putOut, handedOn, systemAfter, agreementBy, frameAgreement}
 use Rattle.system.proofs.FaultLaws.{faultMessage-length}
 use Rattle.faults.specs.Code.{Small}
 use Rattle.faults.proofs.LayoutLaws.{small-of-shape}
-use Rattle.rows.specs.Code.{wordPlace, memoryIn, Rows, Stored, Through}
+use Rattle.rows.specs.Code.{wordPlace, memoryIn, seenWords, Rows, Stored, Through}
 use Rattle.rows.proofs.RowLaws.{row-at, memory-eq}
 use Rattle.row_word.specs.Code.{isGood, heardWord}
 use Rattle.row_counter.specs.Code.{frameBefore, counterAfter, counterAgreement}
 use Rattle.row_vote.specs.Code.{votedAt, sentWord, votedBy, wordAgreement, sentFrame, votedRow, rowAgreement}
-use Rattle.row_frame.specs.Code.{ran, spoiled, closedRow, putFrom}
+use Rattle.row_frame.specs.Code.{ran, spoiled, closedRow, putFrom, handedFrom}
 
 -- ---- the numbers of an accepted plan
 
@@ -59,9 +58,6 @@ module _ (p : Plan) (accept : accepted p ≡ true) (s : Sizes) (e : s ≡ sizesO
       let h : Shape p = shape-of-accepted p accept in
       subst (λ (z : Sizes). Small z × (0 < z .nodes) × (0 < z .frames) × (z .frames ≤ mostFrames) × (z .period < 65536)) (sym e)
       (small-of-shape p h, omega (arith, h .nodes-low), h .frames-pos, h .frames-le, period-small p accept refl)
-
-  pub place-fits : {n : ℕ} → n ≡ p .actuators → n ≡ s .actuators
-  place-fits {n} h = subst (λ (z : Sizes). n ≡ z .actuators) (sym e) h
 
   pub table-fits : (a : ℕ) → a < s .actuators → getD (p .«actuator_cell») a 0 < mostCells
   table-fits =
@@ -255,23 +251,6 @@ module _
       node-after : (i : ℕ) → i < p .nodes → memoryIn counters' cells' (suc i) ≡ memoryAfter p sys sensors mask faults i
       node-after i l = closed .done (suc i) (omega arith) ∙ ap (closedRow (p .voted) (sizesOf p) mask faults counters cells (suc i)) (ran-node i l) ∙ row-after i
 
-      pub rows-after :
-          ((j : ℕ) → p .nodes ≤ j → j < mostNodes → memoryIn counters cells (suc j) ≡ memoryOf sys j) →
-          length (sys .memories) ≡ mostNodes →
-          (good good' : List ℕ) → good ≡ sys .good →
-          good' ≡ fill (goodAfter (period p) mask good) (p .nodes) good →
-          Rows (systemAfter p sys sensors mask faults) counters' cells' good'
-      unfolding systemAfter
-      rows-after past count good good' same h =
-          record {
-            node-is = λ j l.
-                split (ltb j (p .nodes))
-                (λ t. node-after j (ltb-true _ _ t) ∙ sym (fill-in (memoryAfter p sys sensors mask faults) (p .nodes) (sys .memories) j zeroMemory (ltb-true _ _ t) (omega (arith, count))))
-                (λ t. closed .left (suc j) (omega (arith, ltb-false j (p .nodes) t)) ∙ past j (ltb-false _ _ t) l ∙ sym (fill-out (memoryAfter p sys sensors mask faults) (p .nodes) (sys .memories) j zeroMemory (ltb-false _ _ t)));
-            good-is = h ∙ rw same;
-            count = fill-length (memoryAfter p sys sensors mask faults) (p .nodes) (sys .memories) ∙ count;
-          }
-
       put-is : (a j : ℕ) → a < p .actuators → j < p .nodes → putFrom (sizesOf p) mask faults cells' (getD (p .«actuator_cell») a 0) a j ≡ putOut p sys sensors mask faults a j
       unfolding putOut setpoint
       put-is a j l k =
@@ -282,16 +261,38 @@ module _
           (sym (row-at cells' (suc j) (getD (p .«actuator_cell») a 0) (omega (arith, shape .actuator a l, shape .cells-le)))
           ∙ ap (λ (m : Memory). getD (m .cells) (getD (p .«actuator_cell») a 0) 0) (node-after j k))))
 
-      pub place-after :
-          (place place' : List ℕ) →
-          place' ≡ fill (λ a. Option·getD (plane (putFrom (sizesOf p) mask faults cells' (getD (p .«actuator_cell») a 0) a) (p .nodes)) 0) (p .actuators) place →
-          place' ≡ placeAfter p sys sensors mask faults place
-      unfolding placeAfter
-      place-after place place' h =
+      handed-after :
+          (seen seen' : List ℕ) → seen ≡ seenWords (sys .seen) →
+          seen' ≡ fill (handedFrom (p .«actuator_cell») (sizesOf p) mask faults cells' seen) (p .actuators) seen →
+          seen' ≡ fill (handedOn p sys sensors mask faults) (p .actuators) (sys .seen .handed)
+      unfolding handedOn
+      handed-after seen seen' same h =
           h
-          ∙ fill-same _ _ (p .actuators) place
-          (λ a l. ap (λ (o : Option ℕ). Option·getD o 0)
-          (plane-same (putFrom (sizesOf p) mask faults cells' (getD (p .«actuator_cell») a 0) a) (putOut p sys sensors mask faults a) (p .nodes) (λ j k. put-is a j l k)))
+          ∙ rw same
+          (fill-same _ _ (p .actuators) (sys .seen .handed)
+          (λ a l. plane-same (putFrom (sizesOf p) mask faults cells' (getD (p .«actuator_cell») a 0) a) (putOut p sys sensors mask faults a) (p .nodes) _ (λ j k. put-is a j l k)))
+
+      pub rows-after :
+          ((j : ℕ) → p .nodes ≤ j → j < mostNodes → memoryIn counters cells (suc j) ≡ memoryOf sys j) →
+          length (sys .memories) ≡ mostNodes →
+          (good good' : List ℕ) → good ≡ sys .good →
+          good' ≡ fill (goodAfter (period p) mask good) (p .nodes) good →
+          length (sys .seen .handed) ≡ mostActuators →
+          (seen seen' : List ℕ) → seen ≡ seenWords (sys .seen) →
+          seen' ≡ fill (handedFrom (p .«actuator_cell») (sizesOf p) mask faults cells' seen) (p .actuators) seen →
+          Rows (systemAfter p sys sensors mask faults) counters' cells' good' seen'
+      unfolding systemAfter
+      rows-after past count good good' same h seen-count seen seen' seen-same k =
+          record {
+            node-is = λ j l.
+                split (ltb j (p .nodes))
+                (λ t. node-after j (ltb-true _ _ t) ∙ sym (fill-in (memoryAfter p sys sensors mask faults) (p .nodes) (sys .memories) j zeroMemory (ltb-true _ _ t) (omega (arith, count))))
+                (λ t. closed .left (suc j) (omega (arith, ltb-false j (p .nodes) t)) ∙ past j (ltb-false _ _ t) l ∙ sym (fill-out (memoryAfter p sys sensors mask faults) (p .nodes) (sys .memories) j zeroMemory (ltb-false _ _ t)));
+            good-is = h ∙ rw same;
+            seen-is = handed-after seen seen' seen-same k;
+            count = fill-length (memoryAfter p sys sensors mask faults) (p .nodes) (sys .memories) ∙ count;
+            seen-count = fill-length (handedOn p sys sensors mask faults) (p .actuators) (sys .seen .handed) ∙ seen-count;
+          }
 
 -- ---- the whole frame
 
@@ -304,29 +305,29 @@ closed-single votes s mask faults counters cells m = refl
 pub framed :
     (p : Plan) → accepted p ≡ true → (s : Sizes) → s ≡ sizesOf p →
     (first : ℕ) → first ≤ 1 → (sensors : List ℕ) (mask : ℕ) (faults : List ℕ)
-    (counters cells counters₁ cells₁ counters₂ cells₂ good good' place place' : List ℕ) (agreed : ℕ) →
+    (counters cells counters₁ cells₁ counters₂ cells₂ good good' seen seen' : List ℕ) (agreed : ℕ) →
     Through (p .nodes + 1) (ran p sensors first) counters cells counters₁ cells₁ →
     ((i : ℕ) → getD cells₁ i 0 < 2 ^ 64) →
     Through (s .nodes + 1) (closedRow (p .voted) s mask faults counters₁ cells₁) counters₁ cells₁ counters₂ cells₂ →
-    place' ≡ fill (λ a. Option·getD (plane (putFrom s mask faults cells₂ (getD (p .«actuator_cell») a 0) a) (s .nodes)) 0) (s .actuators) place →
+    seen' ≡ fill (handedFrom (p .«actuator_cell») s mask faults cells₂ seen) (s .actuators) seen →
     good' ≡ fill (goodAfter (s .period) mask good) (s .nodes) good →
     agreed ≡ Option·getD (least (isGood mask) (rowAgreement (p .voted) s mask faults counters₁ cells₁) (s .nodes)) 0 →
-    ((sys : System) → Rows sys counters cells good → Rows (systemAfter p sys sensors mask faults) counters₂ cells₂ good' × (place' ≡ placeAfter p sys sensors mask faults place) × (agreed ≡ frameAgreement p sys sensors mask faults))
+    ((sys : System) → Rows sys counters cells good seen → Rows (systemAfter p sys sensors mask faults) counters₂ cells₂ good' seen' × (agreed ≡ frameAgreement p sys sensors mask faults))
     × (memoryIn counters₂ cells₂ 0 ≡ cond (eqb first 0) (computed p sensors (memoryIn counters cells 0)) (memoryIn counters cells 0))
-framed p accept s e first few sensors mask faults counters cells counters₁ cells₁ counters₂ cells₂ good good' place place' agreed tasks bounded =
+framed p accept s e first few sensors mask faults counters cells counters₁ cells₁ counters₂ cells₂ good good' seen seen' agreed tasks bounded =
     subst
     (λ (z : Sizes).
     Through (z .nodes + 1) (closedRow (p .voted) z mask faults counters₁ cells₁) counters₁ cells₁ counters₂ cells₂ →
-    place' ≡ fill (λ a. Option·getD (plane (putFrom z mask faults cells₂ (getD (p .«actuator_cell») a 0) a) (z .nodes)) 0) (z .actuators) place →
+    seen' ≡ fill (handedFrom (p .«actuator_cell») z mask faults cells₂ seen) (z .actuators) seen →
     good' ≡ fill (goodAfter (z .period) mask good) (z .nodes) good →
     agreed ≡ Option·getD (least (isGood mask) (rowAgreement (p .voted) z mask faults counters₁ cells₁) (z .nodes)) 0 →
-    ((sys : System) → Rows sys counters cells good → Rows (systemAfter p sys sensors mask faults) counters₂ cells₂ good' × (place' ≡ placeAfter p sys sensors mask faults place) × (agreed ≡ frameAgreement p sys sensors mask faults))
+    ((sys : System) → Rows sys counters cells good seen → Rows (systemAfter p sys sensors mask faults) counters₂ cells₂ good' seen' × (agreed ≡ frameAgreement p sys sensors mask faults))
     × (memoryIn counters₂ cells₂ 0 ≡ cond (eqb first 0) (computed p sensors (memoryIn counters cells 0)) (memoryIn counters cells 0)))
     (sym e)
     (λ closed puts counts least-is. (
       (λ sys rows. (
-        rows-after p accept sys sensors mask faults counters₁ cells₁ (node sys rows) bounded counters₂ cells₂ closed (past sys rows) (rows .count) good good' (rows .good-is) counts,
-        place-after p accept sys sensors mask faults counters₁ cells₁ (node sys rows) bounded counters₂ cells₂ closed place place' puts,
+        rows-after p accept sys sensors mask faults counters₁ cells₁ (node sys rows) bounded counters₂ cells₂ closed (past sys rows) (rows .count) good good' (rows .good-is) counts
+            (rows .seen-count) seen seen' (rows .seen-is) puts,
         frame-agreed p accept sys sensors mask faults counters₁ cells₁ (node sys rows) bounded least-is,
       )),
       alone closed ∙ tasks .done 0 (omega arith) ∙ ran-single p sensors first (memoryIn counters cells 0),
@@ -335,13 +336,13 @@ framed p accept s e first few sensors mask faults counters cells counters₁ cel
     few-nodes : p .nodes ≤ mostNodes
     few-nodes = shape-of-accepted p accept .nodes-high
 
-    node : (sys : System) → Rows sys counters cells good → (j : ℕ) → j < p .nodes → memoryIn counters₁ cells₁ (suc j) ≡ computed p sensors (memoryOf sys j)
+    node : (sys : System) → Rows sys counters cells good seen → (j : ℕ) → j < p .nodes → memoryIn counters₁ cells₁ (suc j) ≡ computed p sensors (memoryOf sys j)
     node sys rows j l =
         tasks .done (suc j) (omega arith)
         ∙ ran-is p sensors first (suc j) (memoryIn counters cells (suc j)) (omega arith)
         ∙ ap (computed p sensors) (rows .node-is j (omega (arith, few-nodes)))
 
-    past : (sys : System) → Rows sys counters cells good → (j : ℕ) → p .nodes ≤ j → j < mostNodes → memoryIn counters₁ cells₁ (suc j) ≡ memoryOf sys j
+    past : (sys : System) → Rows sys counters cells good seen → (j : ℕ) → p .nodes ≤ j → j < mostNodes → memoryIn counters₁ cells₁ (suc j) ≡ memoryOf sys j
     past sys rows j l k = tasks .left (suc j) (omega arith) ∙ rows .node-is j k
 
     alone : Through (p .nodes + 1) (closedRow (p .voted) (sizesOf p) mask faults counters₁ cells₁) counters₁ cells₁ counters₂ cells₂ → memoryIn counters₂ cells₂ 0 ≡ memoryIn counters₁ cells₁ 0

@@ -2,7 +2,7 @@
 use mathlib.Core.Path.{_≡_, sym, ap, _∙_}
 use mathlib.Core.Bool.{true, false}
 use mathlib.Core.List.{List}
-use mathlib.Core.Option.{Option, some, Option·getD}
+use mathlib.Core.Option.{Option, some}
 use Prim.Native.Nat.{ℕ, _+_, _*_, _≤_, _<_}
 use native.Mathlib.Omega.{arith}
 use native.Mathlib.Numerals.{add-one}
@@ -33,5 +33,5 @@ module _ (s : Sizes) (mask : ℕ) (faults cells : List ℕ) (cell a j : ℕ) {w 
   put-good t f = rw t (ap some (rw (← add-one j) (sym f)))
 
 -- the plane on what was told
-pub plane-told : (bin : ℕ → Option ℕ) (n : ℕ) (values : List ℕ) {r : ℕ} → Told bin n values → some r ≡ plane (packed values n) n → r ≡ Option·getD (plane bin n) 0
-plane-told bin n values t e = ap (λ (o : Option ℕ). Option·getD o 0) (e ∙ told-plane bin n values t)
+pub plane-told : (bin : ℕ → Option ℕ) (n : ℕ) (values : List ℕ) {x r v : ℕ} → Told bin n values → x ≡ r → v ≡ plane (packed values n) n x → v ≡ plane bin n r
+plane-told bin n values {x} t same e = e ∙ told-plane bin n values t x ∙ ap (plane bin n) same

@@ -11,6 +11,7 @@ use Rattle.plan.specs.declared.Plan.{Plan}
 use Rattle.memory.specs.declared.Memory.{Memory}
 use Rattle.memory.specs.Node.{computed}
 use Rattle.system.specs.Fault.{faultMemory, faultSetpoint}
+use Rattle.ballot.specs.Plane.{plane}
 use Rattle.rows.specs.Code.{wordPlace}
 use Rattle.row_vote.specs.Code.{votedRow}
 
@@ -30,3 +31,7 @@ closedRow votes s mask faults counters cells q m = spoiled s mask faults q (vote
 -- what node j puts out for actuator a, whose cell is `cell`
 abbrev pub putFrom : Sizes → ℕ → List ℕ → List ℕ → ℕ → ℕ → ℕ → Option ℕ
 putFrom s mask faults cells cell a j = cond (bit mask j) (faultSetpoint s faults j a) (some (getD cells (wordPlace (suc j) cell) 0))
+
+-- what the plane hands on for actuator a, whose cell the table tells
+abbrev pub handedFrom : List ℕ → Sizes → ℕ → List ℕ → List ℕ → List ℕ → ℕ → ℕ
+handedFrom table s mask faults cells handed a = plane (putFrom s mask faults cells (getD table a 0) a) (s .nodes) (getD handed a 0)

@@ -11,17 +11,16 @@ ghost use Rattle.plan.specs.Limits.{mostFrames, mostCells};
 ghost use Rattle.plan.specs.Accepted.{accepted};
 ghost use Rattle.plan.specs.Sizes.{sizesOf};
 ghost use Rattle.cam.specs.Cam.{camTable};
-ghost use Rattle.ballot.specs.Plane.{plane as planeOf};
 ghost use Rattle.ballot.specs.Code.{Told};
 ghost use Rattle.memory.specs.Size.{patternSize, cellAt};
 ghost use Rattle.memory.specs.Node.{computed};
 ghost use Rattle.system.specs.Counts.{goodAfter};
-ghost use Rattle.system.specs.Frame.{systemAfter, placeAfter, frameAgreement};
+ghost use Rattle.system.specs.Frame.{systemAfter, frameAgreement};
 ghost use Rattle.faults.specs.Code.{Small, Parts};
 ghost use Rattle.rows.specs.Code.{rowCount, wordCount, memoryIn, Rows, Through};
 ghost use Rattle.row_word.specs.Code.{isGood};
 ghost use Rattle.row_vote.specs.Code.{rowAgreement};
-ghost use Rattle.row_frame.specs.Code.{spoiled, closedRow, putFrom};
+ghost use Rattle.row_frame.specs.Code.{spoiled, closedRow, putFrom, handedFrom};
 use plan::Plan;
 use plan::Sizes;
 use system::System;
@@ -86,16 +85,17 @@ fn put_out(
     values
 }
 
-fn plane_values<'a>(
+// What the plane hands on takes the place of what it remembers.
+fn hand_on<'a>(
     table: &'a [usize; Plan::ACTUATORS],
     s: Sizes,
     mask: u64,
     faults: &[u8],
     cells: &'a [u64],
-    place: &mut [u64],
+    seen: &mut [u64; rows::step::SEEN],
 )
-    requires { ⌜ Small s × (0 < s .nodes) × Parts s mask (length (now faults)) × (length (now cells) ≡ wordCount) × (length (now place) ≡ s .actuators) × ((a : ℕ) → a < s .actuators → getD (now table) a 0 < mostCells) ⌝ }
-    ensures { λ _. ⌜ now (place .exit) ≡ filledWith (λ a. Option·getD (planeOf (putFrom s mask (now (faults .entry)) (now (cells .entry)) (getD (now (table .entry)) a 0) a) (s .nodes)) 0) (s .actuators) (now (place .entry)) ⌝ }
+    requires { ⌜ Small s × Parts s mask (length (now faults)) × (length (now cells) ≡ wordCount) × ((a : ℕ) → a < s .actuators → getD (now table) a 0 < mostCells) ⌝ }
+    ensures { λ _. ⌜ now (seen .exit) ≡ filledWith (handedFrom (now (table .entry)) s mask (now (faults .entry)) (now (cells .entry)) (now (seen .entry))) (s .actuators) (now (seen .entry)) ⌝ }
 {
     let actuators = s.actuators;
     let nodes = s.nodes;
@@ -103,14 +103,15 @@ fn plane_values<'a>(
     while a < actuators {
         let cell = table[a];
         let values = put_out(s, mask, faults, cells, cell, a);
-        place[a] = ballot::step::plane(&values, nodes);
+        let remembered = seen[a];
+        seen[a] = ballot::step::plane(&values, nodes, remembered);
         a += 1;
     }
 }
 
 // ---- the frame
 
-// A frame after its tasks: vote, faults, setpoints, good counts. It gives the frame's agreement.
+// A frame after its tasks: vote, faults, plane, good counts. It gives the frame's agreement.
 fn close<'a>(
     voted: &'a [bool; Plan::VOTES],
     table: &'a [usize; Plan::ACTUATORS],
@@ -120,14 +121,14 @@ fn close<'a>(
     counters: &mut [u16],
     cells: &mut [u64],
     good: &mut [u16; System::NODES],
-    place: &mut [u64],
+    seen: &mut [u64; rows::step::SEEN],
 ) -> usize
-    requires { ⌜ Small s × (0 < s .nodes) × (0 < s .frames) × (s .frames ≤ mostFrames) × (s .period < 65536) × Parts s mask (length (now faults)) × (length (now counters) ≡ rowCount) × (length (now cells) ≡ wordCount) × (length (now place) ≡ s .actuators) × ((a : ℕ) → a < s .actuators → getD (now table) a 0 < mostCells) ⌝ }
-    ensures { λ r. ⌜ Through (s .nodes + 1) (closedRow (now (voted .entry)) s mask (now (faults .entry)) (now (counters .entry)) (now (cells .entry))) (now (counters .entry)) (now (cells .entry)) (now (counters .exit)) (now (cells .exit)) × (now (place .exit) ≡ filledWith (λ a. Option·getD (planeOf (putFrom s mask (now (faults .entry)) (now (cells .exit)) (getD (now (table .entry)) a 0) a) (s .nodes)) 0) (s .actuators) (now (place .entry))) × (now (good .exit) ≡ filledWith (goodAfter (s .period) mask (now (good .entry))) (s .nodes) (now (good .entry))) × ((i : ℕ) → getD (now (cells .entry)) i 0 < 2 ^ 64) × (r ≡ Option·getD (least (isGood mask) (rowAgreement (now (voted .entry)) s mask (now (faults .entry)) (now (counters .entry)) (now (cells .entry))) (s .nodes)) 0) ⌝ }
+    requires { ⌜ Small s × (0 < s .nodes) × (0 < s .frames) × (s .frames ≤ mostFrames) × (s .period < 65536) × Parts s mask (length (now faults)) × (length (now counters) ≡ rowCount) × (length (now cells) ≡ wordCount) × ((a : ℕ) → a < s .actuators → getD (now table) a 0 < mostCells) ⌝ }
+    ensures { λ r. ⌜ Through (s .nodes + 1) (closedRow (now (voted .entry)) s mask (now (faults .entry)) (now (counters .entry)) (now (cells .entry))) (now (counters .entry)) (now (cells .entry)) (now (counters .exit)) (now (cells .exit)) × (now (seen .exit) ≡ filledWith (handedFrom (now (table .entry)) s mask (now (faults .entry)) (now (cells .exit)) (now (seen .entry))) (s .actuators) (now (seen .entry))) × (now (good .exit) ≡ filledWith (goodAfter (s .period) mask (now (good .entry))) (s .nodes) (now (good .entry))) × ((i : ℕ) → getD (now (cells .entry)) i 0 < 2 ^ 64) × (r ≡ Option·getD (least (isGood mask) (rowAgreement (now (voted .entry)) s mask (now (faults .entry)) (now (counters .entry)) (now (cells .entry))) (s .nodes)) 0) ⌝ }
 {
     let agreement = row_vote::step::vote(voted, s, mask, faults, counters, cells);
     spoil(s, mask, faults, counters, cells);
-    plane_values(table, s, mask, faults, cells, place);
+    hand_on(table, s, mask, faults, cells, seen);
     counts::step::counts(good, s.nodes, mask, s.period);
     agreement
 }
@@ -145,10 +146,10 @@ pub fn frame(
     counters: &mut [u16],
     cells: &mut [u64],
     good: &mut [u16; System::NODES],
-    place: &mut [u64],
+    seen: &mut [u64; rows::step::SEEN],
 ) -> usize
-    requires { ⌜ (accepted plan ≡ true) × (s ≡ sizesOf plan) × (first ≤ 1) × (length (now sensors) ≡ plan .sensors) × Parts s mask (length (now faults)) × (length (now counters) ≡ rowCount) × (length (now cells) ≡ wordCount) × (length (now place) ≡ plan .actuators) × (now cams ≡ camTable) ⌝ }
-    ensures { λ r. ⌜ ((sys : System) → Rows sys (now (counters .entry)) (now (cells .entry)) (now (good .entry)) → Rows (systemAfter plan sys (now (sensors .entry)) mask (now (faults .entry))) (now (counters .exit)) (now (cells .exit)) (now (good .exit)) × (now (place .exit) ≡ placeAfter plan sys (now (sensors .entry)) mask (now (faults .entry)) (now (place .entry))) × (r ≡ frameAgreement plan sys (now (sensors .entry)) mask (now (faults .entry)))) × (memoryIn (now (counters .exit)) (now (cells .exit)) 0 ≡ cond (eqb first 0) (computed plan (now (sensors .entry)) (memoryIn (now (counters .entry)) (now (cells .entry)) 0)) (memoryIn (now (counters .entry)) (now (cells .entry)) 0)) ⌝ }
+    requires { ⌜ (accepted plan ≡ true) × (s ≡ sizesOf plan) × (first ≤ 1) × (length (now sensors) ≡ plan .sensors) × Parts s mask (length (now faults)) × (length (now counters) ≡ rowCount) × (length (now cells) ≡ wordCount) × (now cams ≡ camTable) ⌝ }
+    ensures { λ r. ⌜ ((sys : System) → Rows sys (now (counters .entry)) (now (cells .entry)) (now (good .entry)) (now (seen .entry)) → Rows (systemAfter plan sys (now (sensors .entry)) mask (now (faults .entry))) (now (counters .exit)) (now (cells .exit)) (now (good .exit)) (now (seen .exit)) × (r ≡ frameAgreement plan sys (now (sensors .entry)) mask (now (faults .entry)))) × (memoryIn (now (counters .exit)) (now (cells .exit)) 0 ≡ cond (eqb first 0) (computed plan (now (sensors .entry)) (memoryIn (now (counters .entry)) (now (cells .entry)) 0)) (memoryIn (now (counters .entry)) (now (cells .entry)) 0)) ⌝ }
 {
     let rows = plan.nodes + 1;
     let frames = plan.frames;
@@ -187,6 +188,6 @@ pub fn frame(
         counters,
         cells,
         good,
-        place,
+        seen,
     )
 }

@@ -19,15 +19,16 @@ use Rattle.array.proofs.LoopLaws.{all-passed}
 use Rattle.array.proofs.PlacesLaws.{fill-length, fill-in}
 use Rattle.array.proofs.PlacedLaws.{placed-before, placed-after, part-back}
 use Rattle.plan.specs.declared.Plan.{Plan}
-use Rattle.plan.specs.Limits.{mostNodes, mostCells}
+use Rattle.plan.specs.Limits.{mostNodes, mostCells, mostActuators}
 use Rattle.task.specs.Task.{runTasks}
 use Rattle.memory.specs.declared.Memory.{Memory}
 use Rattle.memory.specs.Node.{zeroMemory, computed}
 use Rattle.memory.proofs.StepLaws.{computed-is}
+use Rattle.system.specs.declared.Seen.{Seen}
 use Rattle.system.specs.declared.System.{System}
 use Rattle.system.specs.Frame.{memoryOf}
 use Rattle.system.specs.CountCalls.{sameMemory}
-use Rattle.rows.specs.Code.{rowOf, memoryIn, Rows, Stored, Through, sameRow}
+use Rattle.rows.specs.Code.{rowOf, memoryIn, seenWords, Rows, Stored, Through, sameRow}
 
 -- ---- a row by its words
 
@@ -200,18 +201,27 @@ module _ (memories : List Memory) (counters₀ cells₀ : List ℕ) where
 pub rows-unpacked :
     (sys : System) {counters₀ cells₀ counters cells : List ℕ} {n : ℕ} →
     length (sys .memories) ≡ mostNodes →
+    length (sys .seen .handed) ≡ mostActuators →
     Unpacked (sys .memories) counters₀ cells₀ n counters cells →
     n ≡ mostNodes →
-    Rows sys counters cells (sys .good) × (memoryIn counters cells 0 ≡ memoryIn counters₀ cells₀ 0)
-rows-unpacked sys l h z = (record { node-is = λ j k. h .nodes j (omega arith); good-is = refl; count = l }, h .first)
+    Rows sys counters cells (sys .good) (seenWords (sys .seen)) × (memoryIn counters cells 0 ≡ memoryIn counters₀ cells₀ 0)
+rows-unpacked sys l m h z = (record { node-is = λ j k. h .nodes j (omega arith); good-is = refl; seen-is = refl; count = l; seen-count = m }, h .first)
+
+-- what is seen, handed over as its words
+pub rows-seen : {sys : System} {counters cells good words seen : List ℕ} → seen ≡ words → Rows sys counters cells good words → Rows sys counters cells good seen
+rows-seen e h = record { node-is = h .node-is; good-is = h .good-is; seen-is = e ∙ h .seen-is; count = h .count; seen-count = h .seen-count }
+
+pub seen-long : {sys : System} {counters cells good seen : List ℕ} → Rows sys counters cells good seen → length seen ≡ mostActuators
+seen-long h = ap length (h .seen-is) ∙ h .seen-count
 
 pub packed-is :
-    (counters cells good : List ℕ) (start memories : List Memory) →
+    (counters cells good words : List ℕ) (seen : Seen) (start memories : List Memory) →
+    words ≡ seenWords seen →
     length start ≡ mostNodes →
     memories ≡ fill (λ j. memoryIn counters cells (j + 1)) mostNodes start →
-    (sys : System) → Rows sys counters cells good →
-    _≡_ {A = System} (record { memories = memories; good = good }) sys
-packed-is counters cells good start memories n e sys h =
+    (sys : System) → Rows sys counters cells good words →
+    _≡_ {A = System} (record { memories = memories; good = good; seen = seen }) sys
+packed-is counters cells good words seen start memories w n e sys h =
     let long : length memories ≡ mostNodes = ap length e ∙ fill-length (λ j. memoryIn counters cells (j + 1)) mostNodes start ∙ n in
     let same : memories ≡ sys .memories =
     ext-getD zeroMemory memories (sys .memories) (long ∙ sym (h .count))
@@ -220,7 +230,8 @@ packed-is counters cells good start memories n e sys h =
     ∙ fill-in (λ j. memoryIn counters cells (j + 1)) mostNodes start j zeroMemory (omega arith) (omega arith)
     ∙ ap (memoryIn counters cells) (add-one j)
     ∙ h .node-is j (omega arith)) in
-    λ i. record { memories = same i; good = h .good-is i }
+    let handed : seen .handed ≡ sys .seen .handed = sym w ∙ h .seen-is in
+    λ i. record { memories = same i; good = h .good-is i; seen = record { handed = handed i } }
 
 -- ---- a row that runs its tasks
 
@@ -274,13 +285,13 @@ same-is p a b c d e f g = rw (e, f, g)
 
 -- the count over rows is the count over memories
 pub equal-is :
-    (p : Plan) (sys : System) (single : Memory) (counters cells good : List ℕ) {count : ℕ} (n : ℕ) →
-    Rows sys counters cells good →
+    (p : Plan) (sys : System) (single : Memory) (counters cells good seen : List ℕ) {count : ℕ} (n : ℕ) →
+    Rows sys counters cells good seen →
     memoryIn counters cells 0 ≡ single →
     count ≡ p .cells →
     n ≤ mostNodes →
     howMany (λ j. sameRow count counters cells (j + 1)) n ≡ howMany (λ i. sameMemory p (memoryOf sys i) single) n
 unfolding sameRow
-equal-is p sys single counters cells good n h e k few =
+equal-is p sys single counters cells good seen n h e k few =
     howMany-same _ _ n
     (λ j l. rw (add-one j) (same-is p (memoryIn counters cells (suc j)) (memoryIn counters cells 0) (memoryOf sys j) single k (h .node-is j (omega arith)) e))

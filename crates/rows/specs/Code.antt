@@ -6,8 +6,9 @@ use Prim.Native.Nat.{ℕ, suc, _+_, _*_, _≤_, _<_}
 use lib.Dec.{eqb}
 use lib.ListN.{length, getD, take, drop}
 use Rattle.array.specs.Index.{allBelow}
-use Rattle.plan.specs.Limits.{mostNodes, mostCells}
+use Rattle.plan.specs.Limits.{mostNodes, mostCells, mostActuators}
 use Rattle.memory.specs.declared.Memory.{Memory}
+use Rattle.system.specs.declared.Seen.{Seen}
 use Rattle.system.specs.declared.System.{System}
 use Rattle.system.specs.Frame.{memoryOf}
 
@@ -31,11 +32,17 @@ rowOf cells r = take mostCells (drop (mostCells * r) cells)
 abbrev pub memoryIn : List ℕ → List ℕ → ℕ → Memory
 memoryIn counters cells r = record { counter = getD counters r 0; cells = rowOf cells r }
 
--- the rows from 1 on hold a system
-pub record Rows (sys : System) (counters cells good : List ℕ) : Type 0 where
+-- what is seen, as words: a struct cannot be lent, its words can
+abbrev pub seenWords : Seen → List ℕ
+seenWords seen = seen .handed
+
+-- the rows from 1 on hold a system, and words beside them what is seen
+pub record Rows (sys : System) (counters cells good seen : List ℕ) : Type 0 where
   pub node-is : (j : ℕ) → j < mostNodes → memoryIn counters cells (suc j) ≡ memoryOf sys j
   pub good-is : good ≡ sys .good
+  pub seen-is : seen ≡ seenWords (sys .seen)
   pub count : length (sys .memories) ≡ mostNodes
+  pub seen-count : length (sys .seen .handed) ≡ mostActuators
 
 -- row r has become m, and the others are as they were
 pub record Stored (counters cells : List ℕ) (r : ℕ) (m : Memory) (counters' cells' : List ℕ) : Type 0 where

@@ -4,9 +4,10 @@ ghost use Prim.Native.Nat.{_+_, _<_, _≤_};
 ghost use lib.ListN.{length};
 ghost use Rattle.array.specs.Index.{howMany};
 ghost use Rattle.plan.specs.Limits.{mostNodes, mostCells};
-ghost use Rattle.rows.specs.Code.{rowCount, wordCount, wordPlace, memoryIn, Rows, Stored, sameRow};
+ghost use Rattle.rows.specs.Code.{rowCount, wordCount, wordPlace, memoryIn, seenWords, Rows, Stored, sameRow};
 use memory::Memory;
 use plan::Plan;
+use system::Seen;
 use system::System;
 
 // A row for each node, and one for the single controller.
@@ -25,6 +26,21 @@ pub fn word_place(r: usize, c: usize) -> usize
 
 // ---- from a record to rows, and back
 
+// The words of what is seen: the values last handed on.
+pub const SEEN: usize = System::ACTUATORS;
+
+pub fn seen_words(seen: Seen) -> [u64; SEEN]
+    ensures { λ r. ⌜ r ≡ seenWords seen ⌝ }
+{
+    seen.handed
+}
+
+fn seen_of(words: [u64; SEEN]) -> Seen
+    ensures { λ r. ⌜ words ≡ seenWords r ⌝ }
+{
+    Seen { handed: words }
+}
+
 pub fn put_memory(m: Memory, r: usize, counters: &mut [u16], cells: &mut [u64])
     requires { ⌜ (length (now counters) ≡ rowCount) × (length (now cells) ≡ wordCount) × (r < rowCount) ⌝ }
     ensures { λ _. ⌜ Stored (now (counters .entry)) (now (cells .entry)) r m (now (counters .exit)) (now (cells .exit)) ⌝ }
@@ -37,7 +53,7 @@ pub fn put_memory(m: Memory, r: usize, counters: &mut [u16], cells: &mut [u64])
 
 pub fn unpack(system: System, counters: &mut [u16], cells: &mut [u64])
     requires { ⌜ (length (now counters) ≡ rowCount) × (length (now cells) ≡ wordCount) ⌝ }
-    ensures { λ _. ⌜ Rows system (now (counters .exit)) (now (cells .exit)) (system .good) × (memoryIn (now (counters .exit)) (now (cells .exit)) 0 ≡ memoryIn (now (counters .entry)) (now (cells .entry)) 0) ⌝ }
+    ensures { λ _. ⌜ Rows system (now (counters .exit)) (now (cells .exit)) (system .good) (seenWords (system .seen)) × (memoryIn (now (counters .exit)) (now (cells .exit)) 0 ≡ memoryIn (now (counters .entry)) (now (cells .entry)) 0) ⌝ }
 {
     let mut j: usize = 0;
     while j < System::NODES {
@@ -60,9 +76,14 @@ pub fn memory(r: usize, counters: &[u16], cells: &[u64]) -> Memory
     }
 }
 
-pub fn pack(counters: &[u16], cells: &[u64], good: [u16; System::NODES]) -> System
+pub fn pack(
+    counters: &[u16],
+    cells: &[u64],
+    good: [u16; System::NODES],
+    seen: [u64; SEEN],
+) -> System
     requires { ⌜ (length (now counters) ≡ rowCount) × (length (now cells) ≡ wordCount) ⌝ }
-    ensures { λ s. ⌜ ((sys : System) → Rows sys (now (counters .entry)) (now (cells .entry)) good → s ≡ sys) ⌝ }
+    ensures { λ s. ⌜ ((sys : System) → Rows sys (now (counters .entry)) (now (cells .entry)) good seen → s ≡ sys) ⌝ }
 {
     let first = memory(0, counters, cells);
     let mut memories = [first; System::NODES];
@@ -72,7 +93,11 @@ pub fn pack(counters: &[u16], cells: &[u64], good: [u16; System::NODES]) -> Syst
         memories[j] = m;
         j += 1;
     }
-    System { memories, good }
+    System {
+        memories,
+        good,
+        seen: seen_of(seen),
+    }
 }
 
 // ---- the nodes whose memory equals the single controller's

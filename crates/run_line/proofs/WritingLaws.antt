@@ -3,11 +3,12 @@ use mathlib.Core.Path.{_≡_, refl, sym, ap, _∙_}
 use mathlib.Core.List.{List, [], _∷_, _++_, append-assoc, append-nil}
 use Prim.Native.Nat.{ℕ, zero, suc, _+_, _-_, _*_, _≤_}
 use native.Mathlib.Omega.{arith}
+use native.Mathlib.Nat.{zero-add}
 use native.Mathlib.Numerals.{add-one}
-use lib.ListN.{length, getD, set, take, drop, replicate, length-append, length-set, drop-of-length-le}
-use lib.Seq.{getD-take, set-split, length-take-le}
-use Rattle.array.specs.Index.{joined}
-use Rattle.array.proofs.PlacesLaws.{joined-same, joined-more}
+use lib.ListN.{length, getD, set, drop, replicate, length-append, length-set, drop-of-length-le}
+use lib.Seq.{set-split}
+use Rattle.array.specs.Index.{joined, from}
+use Rattle.array.proofs.PlacesLaws.{joined-same, joined-more, from-length, from-at}
 use Rattle.answer.specs.declared.Answer.{Answer}
 use Rattle.answer.specs.Refusal.{numberOf, lineOf}
 use Rattle.column.specs.Column.{column}
@@ -89,7 +90,7 @@ pub placed-whole : (s t : List ℕ) → length t ≡ length s → placed s 0 t �
 placed-whole s t e = ap (λ (l : List ℕ). t ++ l) (drop-of-length-le s {i = 0 + length t} (omega arith)) ∙ append-nil t
 
 -- the line of a frame, in a place of its size
-module _ (s : List ℕ) (n : ℕ) (size : length s ≡ printedSize n) (f w g : ℕ) (vs : List ℕ) (fits : n ≤ length vs) (x : ℕ) where
+module _ (s : List ℕ) (n : ℕ) (size : length s ≡ printedSize n) (f w g : ℕ) (vs : List ℕ) (x : ℕ) where
   abbrev frameColumns : List ℕ
   frameColumns = ((column 8 f ++ column 4 w) ++ column 4 g) ++ (planeColumns (λ k. getD vs k 0) n ++ (column agreementWidth x ++ (10 ∷ [])))
 
@@ -98,10 +99,14 @@ module _ (s : List ℕ) (n : ℕ) (size : length s ≡ printedSize n) (f w g : �
       rw (length-append, length-append, length-append, length-append, length-append, column-length 8 f, column-length 4 w, column-length 4 g, columns-length (λ k. getD vs k 0) n, column-length agreementWidth x, size)
       (omega arith)
 
-  frame-columns : frameColumns ≡ row (printedWidths n) (f ∷ w ∷ g ∷ (take n vs ++ (x ∷ [])))
+  frame-columns : frameColumns ≡ row (printedWidths n) (f ∷ w ∷ g ∷ (from 0 vs 0 n ++ (x ∷ [])))
   unfolding row printedWidths
   frame-columns =
-      rw (row-of-columns n (agreementWidth ∷ []) (take n vs) (x ∷ []) (length-take-le n vs fits), joined-same (λ a. column patternWidth (getD (take n vs) a 0)) (λ a. column patternWidth (getD vs a 0)) n (λ i l. ap (column patternWidth) (getD-take n vs i 0 l)))
+      rw (
+        row-of-columns n (agreementWidth ∷ []) (from 0 vs 0 n) (x ∷ []) (from-length 0 vs 0 n),
+        joined-same (λ a. column patternWidth (getD (from 0 vs 0 n) a 0)) (λ a. column patternWidth (getD vs a 0)) n
+            (λ i l. ap (column patternWidth) (from-at 0 vs 0 n i l ∙ ap (λ (k : ℕ). getD vs k 0) (zero-add i))),
+      )
       (simp append-assoc)
 
   pub frame-row :
@@ -110,7 +115,7 @@ module _ (s : List ℕ) (n : ℕ) (size : length s ≡ printedSize n) (f w g : �
       b ≡ placed a 8 (column 4 w) →
       c ≡ placed b 12 (column 4 g) →
       d ≡ placed c planeValuesAt (planeColumns (λ k. getD vs k 0) n ++ (column agreementWidth x ++ (10 ∷ []))) →
-      d ≡ row (printedWidths n) (f ∷ w ∷ g ∷ (take n vs ++ (x ∷ [])))
+      d ≡ row (printedWidths n) (f ∷ w ∷ g ∷ (from 0 vs 0 n ++ (x ∷ [])))
   frame-row {a} {b} {c} {d} o y z u =
       let t1 : List ℕ = column 8 f in
       let t2 : List ℕ = t1 ++ column 4 w in

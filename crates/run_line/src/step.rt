@@ -6,7 +6,7 @@ ghost use mathlib.Core.Option.{none};
 ghost use Prim.Native.Nat.{_+_, _*_, _≤_};
 ghost use lib.Dec.{ltb};
 ghost use lib.ListN.{length, replicate, getD, take};
-ghost use Rattle.array.specs.Index.{joined};
+ghost use Rattle.array.specs.Index.{joined, from};
 ghost use Rattle.array.specs.Code.{placed};
 ghost use Rattle.column.specs.Column.{column};
 ghost use Rattle.column.specs.Row.{row, numbersFrom};
@@ -165,8 +165,8 @@ pub fn write_frame(
     count: usize,
     agreement: usize,
 )
-    requires { ⌜ (count ≤ mostActuators) × (length (now out) ≡ printedSize count) × (count ≤ length (now values)) ⌝ }
-    ensures { λ _. ⌜ now (out .exit) ≡ row (printedWidths count) (frame ∷ working ∷ equal ∷ (take count (now (values .entry)) ++ (agreement ∷ []))) ⌝ }
+    requires { ⌜ (count ≤ mostActuators) × (length (now out) ≡ printedSize count) ⌝ }
+    ensures { λ _. ⌜ now (out .exit) ≡ row (printedWidths count) (frame ∷ working ∷ equal ∷ (from 0 (now (values .entry)) 0 count ++ (agreement ∷ []))) ⌝ }
 {
     column_write::step::put(out, 0, FRAME, frame as u64);
     column_write::step::put(out, FRAME, COUNT, working as u64);

@@ -18,7 +18,7 @@ use Rattle.answer.specs.Tests.{unlessRefused}
 use Rattle.plan_text.specs.Answers.{readAnswer}
 use Rattle.task.specs.Task.{opValue, runTask, runTasks}
 use Rattle.ballot.specs.Majority.{holds, holders, backing, shared, firstShared, majority, orOwn}
-use Rattle.ballot.specs.Plane.{mostHeld, plane}
+use Rattle.ballot.specs.Plane.{mostHeld, noneMore, plane}
 use Rattle.memory.specs.Node.{computed, before, sentCell, messageOf, binOf, counterFrom, cellFrom, counterIn, cellIn, votedCounter, votedCell, voted}
 use Rattle.short_table.specs.ShortTable.{linesK, linesTake, planK, planTake, mailbox, countersVoted, cellsVoted, planeOf, late, ShortTable}
 
@@ -31,7 +31,7 @@ unfolding linesK linesTake planK planTake mailbox countersVoted cellsVoted plane
     lengthOk isHeader afterCells taskInOrder voteInOrder actuatorInOrder inOrder taskZeros inRange rulesOf formOrRules lineRefusal firstRefusal
     isLast endRefusal periodRefusal linesRefusal textRefusal unlessRefused readAnswer
     opValue runTask runTasks holds holders shared firstShared majority computed before sentCell messageOf binOf counterFrom cellFrom counterIn cellIn orOwn
-    votedCounter votedCell voted backing mostHeld plane
+    votedCounter votedCell voted backing mostHeld noneMore plane
 short-table =
     record {
       row-1 = (refl, refl);
@@ -47,4 +47,6 @@ short-table =
       row-11 = refl;
       row-12 = refl;
       row-13 = (refl, refl);
+      row-2026-06-remembered = refl;
+      row-2026-06-old-rule = refl;
     }

@@ -1,8 +1,9 @@
--- Document 01, 'Short table, to be proved together': the thirteen rows, of the definitions that the contracts cite. The sentence at a row is the paper's.
+-- Document 01, 'Short table, to be proved together': the thirteen rows, of the definitions that the contracts cite, and beside them two of request 2026-06. The
+-- sentence at a row is the paper's.
 use mathlib.Core.Path.{_≡_}
 use mathlib.Core.Bool.{Bool, true, false}
 use mathlib.Core.List.{List, [], _∷_, _++_}
-use mathlib.Core.Option.{Option, some}
+use mathlib.Core.Option.{some}
 use Prim.Native.Nat.{ℕ, _*_}
 use lib.ListN.{length, getD, set, take, replicate}
 use Rattle.array.specs.Index.{joined}
@@ -120,9 +121,9 @@ countersVoted own counters = voted K own (mailbox K (λ j. memory (getD counters
 unfoldable pub cellsVoted : Memory → List ℕ → Memory
 cellsVoted own cells = voted four own (mailbox four (λ j. memory 0 (getD cells j 0) 0))
 
--- what the plane hands on of these values, one of each node
-unfoldable pub planeOf : List ℕ → Option ℕ
-planeOf values = plane (λ i. some (getD values i 0)) (length values)
+-- what the plane hands on of these values, one of each node, where r is remembered
+unfoldable pub planeOf : List ℕ → ℕ → ℕ
+planeOf values r = plane (λ i. some (getD values i 0)) (length values) r
 
 -- the patterns of 1, 2, 3, NaN, +0 and −0
 abbrev pub one : ℕ
@@ -168,11 +169,15 @@ pub record ShortTable : Type 0 where
   pub row-8 : countersVoted (memory 1 0 0) (5 ∷ 5 ∷ 1 ∷ []) .counter ≡ 1
   -- "n = 4, cell bins +0, +0, −0, −0: own kept." Whatever it is
   pub row-9 : (own : ℕ) → cellsVoted (memory 0 own 0) (plusZero ∷ plusZero ∷ minusZero ∷ minusZero ∷ []) ≡ memory 0 own 0
-  -- "Plane 7, 8, 9: 7."
-  pub row-10 : planeOf (7 ∷ 8 ∷ 9 ∷ []) ≡ some 7
+  -- "Plane 7, 8, 9: 7." Request 2026-06: rows 10 and 11 "now hold for a remembered 3"
+  pub row-10 : planeOf (7 ∷ 8 ∷ 9 ∷ []) 3 ≡ 7
   -- "Plane 4, 5, 5, 4, 6: 4."
-  pub row-11 : planeOf (4 ∷ 5 ∷ 5 ∷ 4 ∷ 6 ∷ []) ≡ some 4
+  pub row-11 : planeOf (4 ∷ 5 ∷ 5 ∷ 4 ∷ 6 ∷ []) 3 ≡ 4
   -- "Limit from 1 to 2 of NaN: 1."
   pub row-12 : opValue (Limit 0 (valueOf one) (valueOf two)) 0 [] (nan ∷ []) ≡ one
   -- "Counter 65,535, F = 2: frame 1 is run, 0 is sent." The Sum was run and the Take was not; the first two bytes of the message are the counter
   pub row-13 : (late ≡ memory 0 one three) × (take counterSize (messageOf K late) ≡ 0 ∷ 0 ∷ [])
+  -- Request 2026-06: "Of tied values the remembered one wins": row 11 with a remembered 5
+  pub row-2026-06-remembered : planeOf (4 ∷ 5 ∷ 5 ∷ 4 ∷ 6 ∷ []) 5 ≡ 5
+  -- "if it isn't among them, the old rule decides": a remembered 6, which one node puts out and so is not tied
+  pub row-2026-06-old-rule : planeOf (4 ∷ 5 ∷ 5 ∷ 4 ∷ 6 ∷ []) 6 ≡ 4

@@ -21,7 +21,7 @@ use Rattle.memory.specs.Size.{counterSize, patternSize, cellAt, binBytes}
 use Rattle.ballot.proofs.PlaneLaws.{plane-same}
 use Rattle.system.specs.declared.System.{System}
 use Rattle.system.specs.Fault.{bad, memorySize, messagesSize, setpointSize, faultSize, faultAt, faultMessageAt, faultMemory, faultMessage, faultSetpoint}
-use Rattle.system.specs.Frame.{memoryOf, computedBy, heard, mailboxOf, memoryAfter, putOut, systemAfter, placeAfter, agreementBy, frameAgreement}
+use Rattle.system.specs.Frame.{memoryOf, handedOf, computedBy, heard, mailboxOf, memoryAfter, putOut, handedOn, systemAfter, placeAfter, agreementBy, frameAgreement}
 use Rattle.system.proofs.FaultLaws.{message-room}
 
 -- bytes that agree on the part of node j
@@ -84,15 +84,21 @@ module _
     put-same a j al jl =
         split (bad mask j) (λ e. rw e (setpoint-same (sizesOf p) f g j (λ k. same j k jl e) a al)) (λ e. rw (e, after-same j jl))
 
+    handed-same : (a : ℕ) → a < p .actuators → handedOn p sys sensors mask f a ≡ handedOn p sys sensors mask g a
+    unfolding handedOn
+    handed-same a l = plane-same _ (putOut p sys sensors mask g a) (p .nodes) (handedOf sys a) (λ j h. put-same a j l h)
+
     system-same : systemAfter p sys sensors mask f ≡ systemAfter p sys sensors mask g
     unfolding systemAfter
-    system-same = rw (fill-same _ (memoryAfter p sys sensors mask g) (p .nodes) (sys .memories) after-same)
+    system-same =
+        rw (
+          fill-same _ (memoryAfter p sys sensors mask g) (p .nodes) (sys .memories) after-same,
+          fill-same _ (handedOn p sys sensors mask g) (p .actuators) (sys .seen .handed) handed-same,
+        )
 
     place-same : (place : List ℕ) → placeAfter p sys sensors mask f place ≡ placeAfter p sys sensors mask g place
     unfolding placeAfter
-    place-same place =
-        fill-same _ _ (p .actuators) place
-        (λ a l. ap (λ (o : Option ℕ). Option·getD o 0) (plane-same _ (putOut p sys sensors mask g a) (p .nodes) (λ j h. put-same a j l h)))
+    place-same place = fill-same _ _ (p .actuators) place handed-same
 
     agreement-same : frameAgreement p sys sensors mask f ≡ frameAgreement p sys sensors mask g
     unfolding frameAgreement agreementBy computedBy

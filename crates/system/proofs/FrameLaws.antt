@@ -23,7 +23,6 @@ use Rattle.plan.proofs.PeriodLaws.{allKnown-at, period-reached}
 use Rattle.memory.specs.declared.Memory.{Memory}
 use Rattle.memory.specs.Size.{binSize}
 use Rattle.memory.specs.Node.{zeroMemory, computed, before, messageOf, binOf, voted, setpoint}
-use Rattle.ballot.specs.Plane.{plane}
 use Rattle.ballot.proofs.MajorityLaws.{holders-least}
 use Rattle.ballot.proofs.PlaneLaws.{plane-of-most}
 use Rattle.task.proofs.TaskLaws.{Agree, Bounded}
@@ -34,7 +33,7 @@ use Rattle.memory.proofs.VoteLaws.{Holding, hold-of-messages, MostHold, most-of
 use Rattle.system.specs.declared.System.{System}
 use Rattle.system.specs.Fault.{bad}
 use Rattle.system.specs.Counts.{countAfter, goodAfter}
-use Rattle.system.specs.Frame.{memoryOf, goodOf, computedBy, heard, mailboxOf, memoryAfter, putOut, systemAfter, agreementBy}
+use Rattle.system.specs.Frame.{memoryOf, goodOf, handedOf, computedBy, heard, mailboxOf, memoryAfter, putOut, handedOn, systemAfter, agreementBy}
 use Rattle.system.proofs.FaultLaws.{faultMemory-length, faultMemory-past, faultMessage-length}
 use Rattle.system.proofs.RecoveryLaws.{SameRecovery, recovery-sym, known-same, period-same}
 
@@ -277,9 +276,11 @@ module _
     unfolding putOut
     work-puts a j l w = rw (most .good j l w, work-after j l w)
 
-    pub plane-single : (a : ℕ) → plane (putOut p sys sensors mask faults a) (p .nodes) ≡ some (setpoint p s′ a)
-    plane-single a =
-        plane-of-most (putOut p sys sensors mask faults a) (p .nodes) (setpoint p s′ a)
+    -- whatever is remembered
+    pub handed-single : (a : ℕ) → handedOn p sys sensors mask faults a ≡ setpoint p s′ a
+    unfolding handedOn
+    handed-single a =
+        plane-of-most (putOut p sys sensors mask faults a) (p .nodes) (handedOf sys a) (setpoint p s′ a)
         (omega (arith, most .half, holders-least (most .work) (putOut p sys sensors mask faults a) (p .nodes) (setpoint p s′ a) (work-puts a)))
 
 -- ---- a plan with the same recovery: what holds beside p holds beside q, so a frame of q keeps what holds beside p

@@ -7,3 +7,4 @@ pub mod FrameLaws
 pub mod StateLaws
 pub mod DemandLaws
 pub mod AgreementLaws
+pub mod SeenLaws

@@ -1,4 +1,4 @@
--- Two plans with the same recovery: they differ in the constants of Winds at most, and in initial values and actuators.
+-- Two plans with the same recovery: they differ in the constants of Winds at most, and in initial values.
 -- Recovery is the same for both: known cells, recovery period.
 -- These, `node-after-same`, `mostGood-same` and `state-same` are kept for request 2026-09; nothing else uses them.
 use mathlib.Core.Path.{_≡_, refl, sym, ap, _∙_}
@@ -32,6 +32,7 @@ pub record SameRecovery (p q : Plan) : Type 0 where
   pub actuators : p .actuators ≡ q .actuators
   pub tasks : p .«task_count» ≡ q .«task_count»
   pub votes : p .voted ≡ q .voted
+  pub outputs : p .«actuator_cell» ≡ q .«actuator_cell»
   pub task : (k : ℕ) → k < p .«task_count» → SameTask (taskAt p k) (taskAt q k)
 
 -- ---- it is an equivalence
@@ -55,6 +56,7 @@ recovery-refl p =
       actuators = refl;
       tasks = refl;
       votes = refl;
+      outputs = refl;
       task = λ k l. record { frame = refl; target = refl; op = same-op };
     }
 
@@ -68,6 +70,7 @@ recovery-sym r =
       actuators = sym (r .actuators);
       tasks = sym (r .tasks);
       votes = sym (r .votes);
+      outputs = sym (r .outputs);
       task = λ k l.
           let t = r .task k (omega (arith, r .tasks)) in
           record { frame = sym (t .frame); target = sym (t .target); op = op-sym (t .op) };
@@ -83,6 +86,7 @@ recovery-trans a b =
       actuators = a .actuators ∙ b .actuators;
       tasks = a .tasks ∙ b .tasks;
       votes = a .votes ∙ b .votes;
+      outputs = a .outputs ∙ b .outputs;
       task = λ k l.
           let t = a .task k l in
           let u = b .task k (omega (arith, a .tasks)) in

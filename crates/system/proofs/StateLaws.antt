@@ -1,8 +1,7 @@
 -- What holds between two frame calls: the record's good counts are what the masks give, and each node is by its count what `Node` says.
-use mathlib.Core.Path.{_≡_, sym, ap, _∙_}
+use mathlib.Core.Path.{_≡_, refl, sym, ap, _∙_}
 use mathlib.Core.Bool.{Bool, true, not}
 use mathlib.Core.List.{List, [], _∷_, _++_}
-use mathlib.Core.Option.{Option, Option·getD}
 use Prim.Native.Nat.{ℕ, zero, suc, _+_, _*_, _%_, _≤_, _<_, min}
 use native.Mathlib.Omega.{arith}
 use native.Mathlib.Nat.{add-zero, zero-mod, mod-add-mod, mod-eq-of-lt, mod-lt}
@@ -23,15 +22,15 @@ use Rattle.task.proofs.TaskLaws.{Agree, Bounded}
 use Rattle.memory.proofs.NodeLaws.{poweredOn-counter, poweredOn-small, poweredOn-length, poweredOn-bounded, computed-next}
 use Rattle.memory.proofs.VoteLaws.{before-next}
 use Rattle.system.specs.declared.System.{System}
-use Rattle.system.specs.System.{zeroSystem, powerOn}
+use Rattle.system.specs.System.{zeroSystem, firstHanded, powerOn}
 use Rattle.system.specs.Fault.{bad}
 use Rattle.system.specs.Counts.{isWorking, goodCount}
-use Rattle.system.specs.Frame.{memoryOf, goodOf, memoryAfter, systemAfter, placeAfter, agreementBy}
+use Rattle.system.specs.Frame.{memoryOf, goodOf, handedOf, memoryAfter, handedOn, systemAfter, placeAfter, agreementBy}
 use Rattle.system.specs.Single.{singlePlace}
 use Rattle.system.specs.Demand.{goodIn, MostGood}
 use Rattle.system.proofs.RecoveryLaws.{SameRecovery, period-same}
 use Rattle.system.proofs.CountLaws.{count-least, count-since, Counts, counts-start, count-after, counts-after}
-use Rattle.system.proofs.FrameLaws.{Single, single-next, Recovering, Node, node-whole, MostWork, agreement-least, memory-after, node-after, plane-single, single-same, node-same}
+use Rattle.system.proofs.FrameLaws.{Single, single-next, Recovering, Node, node-whole, MostWork, agreement-least, memory-after, node-after, handed-single, single-same, node-same}
 
 -- ---- between two calls
 
@@ -43,6 +42,14 @@ pub record State (p : Plan) (sys : System) (s : Memory) (past : List ℕ) : Type
   -- the single has run every frame since power-on
   pub frames : s .counter ≡ length past % p .frames
   pub node : (i : ℕ) → i < p .nodes → Node p s (memoryOf sys i) (goodOf sys i)
+  -- the plane remembers the single's setpoints, from power-on
+  pub seen : p .actuators ≤ length (sys .seen .handed)
+  pub handed : (a : ℕ) → a < p .actuators → handedOf sys a ≡ setpoint p s a
+
+-- "at power-on that is the actuator's cell's initial pattern": the single's setpoint there
+first-handed : (p : Plan) (a : ℕ) → firstHanded p a ≡ setpoint p (poweredOn p) a
+unfolding firstHanded setpoint poweredOn
+first-handed p a = refl
 
 pub state-start : (p : Plan) → accepted p ≡ true → State p (powerOn p) (poweredOn p) []
 unfolding powerOn goodCount
@@ -60,6 +67,8 @@ state-start p accept =
       node = λ i l.
           rw (fill-in (λ k. poweredOn p) (p .nodes) (zeroSystem .memories) i zeroMemory l (omega (arith, shape .nodes-high)), counts .count i l)
           (node-whole p (poweredOn p));
+      seen = omega (arith, shape .actuators-le, fill-length (firstHanded p) (p .actuators) (zeroSystem .seen .handed));
+      handed = λ a l. fill-in (firstHanded p) (p .actuators) (zeroSystem .seen .handed) a 0 l (omega (arith, shape .actuators-le)) ∙ first-handed p a;
     }
   where
     shape : Shape p
@@ -172,6 +181,9 @@ module _
     unfolding isWorking working
     agreement-working i = agreement-least p accept sys s sensors mask faults (st .single) patterns working i
 
+    handed : (a : ℕ) → handedOn p sys sensors mask faults a ≡ setpoint p (computed p sensors s) a
+    handed a = handed-single p accept sys s sensors mask faults (st .single) patterns working a
+
     pub state-after : State p (systemAfter p sys sensors mask faults) (computed p sensors s) (mask ∷ past)
     unfolding systemAfter
     state-after =
@@ -183,14 +195,15 @@ module _
           node = λ i l.
               rw (memory-after p sys sensors mask faults (st .memories) i l, count-after p sys past (st .counts) sensors mask faults i l)
               (node-after p accept sys s sensors mask faults (st .single) patterns working i (st .node i l));
+          seen = omega (arith, st .seen, fill-length (handedOn p sys sensors mask faults) (p .actuators) (sys .seen .handed));
+          handed = λ a l.
+              fill-in (handedOn p sys sensors mask faults) (p .actuators) (sys .seen .handed) a 0 l (omega (arith, st .seen)) ∙ handed a;
         }
 
     -- the press gets the single's setpoints
     pub place-after : (place : List ℕ) → placeAfter p sys sensors mask faults place ≡ singlePlace p (computed p sensors s) place
     unfolding placeAfter singlePlace
-    place-after place =
-        fill-same _ (setpoint p (computed p sensors s)) (p .actuators) place
-        (λ a l. ap (λ (o : Option ℕ). Option·getD o 0) (plane-single p accept sys s sensors mask faults (st .single) patterns working a))
+    place-after place = fill-same _ (setpoint p (computed p sensors s)) (p .actuators) place (λ a l. handed a)
 
 -- ---- a plan with the same recovery
 
@@ -200,6 +213,10 @@ counts-same p q same sys past h =
       size = omega (arith, h .size, same .nodes);
       count = λ i l. h .count i (omega (arith, same .nodes)) ∙ rw (period-same p q same);
     }
+
+setpoint-same : (p q : Plan) → SameRecovery p q → (s : Memory) (a : ℕ) → setpoint p s a ≡ setpoint q s a
+unfolding setpoint
+setpoint-same p q same s a = rw (same .outputs)
 
 pub mostGood-same : (p q : Plan) → SameRecovery p q → (mask : ℕ) (past : List ℕ) → MostGood p mask past → MostGood q mask past
 unfolding MostGood
@@ -213,4 +230,6 @@ state-same p q same sys s past st =
       single = single-same p q same (st .single);
       frames = st .frames ∙ rw (same .frames);
       node = λ i l. node-same p q same (st .node i (omega (arith, same .nodes)));
+      seen = omega (arith, st .seen, same .actuators);
+      handed = λ a l. st .handed a (omega (arith, same .actuators)) ∙ setpoint-same p q same s a;
     }

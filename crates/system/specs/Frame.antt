@@ -22,6 +22,10 @@ memoryOf sys i = getD (sys .memories) i zeroMemory
 abbrev pub goodOf : System → ℕ → ℕ
 goodOf sys i = getD (sys .good) i 0
 
+-- what the plane remembers for actuator a
+abbrev pub handedOf : System → ℕ → ℕ
+handedOf sys a = getD (sys .seen .handed) a 0
+
 -- ---- a frame that is not refused: plan, record, sensors, mask, fault bytes
 
 module _ (p : Plan) (sys : System) (sensors : List ℕ) (mask : ℕ) (faults : List ℕ) where
@@ -44,13 +48,20 @@ module _ (p : Plan) (sys : System) (sensors : List ℕ) (mask : ℕ) (faults : L
   unfoldable pub putOut : ℕ → ℕ → Option ℕ
   putOut a j = cond (bad mask j) (faultSetpoint (sizesOf p) faults j a) (some (setpoint p (memoryAfter j) a))
 
+  -- what the plane hands on for actuator a
+  unfoldable pub handedOn : ℕ → ℕ
+  handedOn a = plane (putOut a) (p .nodes) (handedOf sys a)
+
   unfoldable pub systemAfter : System
   systemAfter =
-      record { memories = fill memoryAfter (p .nodes) (sys .memories); good = fill (goodAfter (period p) mask (sys .good)) (p .nodes) (sys .good) }
+      record {
+        memories = fill memoryAfter (p .nodes) (sys .memories);
+        good = fill (goodAfter (period p) mask (sys .good)) (p .nodes) (sys .good);
+        seen = record { handed = fill handedOn (p .actuators) (sys .seen .handed) };
+      }
 
-  -- every node puts something out, so the plane has a value (law `plane-some`)
   unfoldable pub placeAfter : List ℕ → List ℕ
-  placeAfter place = fill (λ a. Option·getD (plane (putOut a) (p .nodes)) 0) (p .actuators) place
+  placeAfter place = fill handedOn (p .actuators) place
 
   -- what node i's vote gives beside its memory
   unfoldable pub agreementBy : ℕ → ℕ

@@ -7,3 +7,4 @@ pub mod Single
 pub mod CountCalls
 pub mod Demand
 pub mod Agreement
+pub mod Seen

@@ -7,10 +7,16 @@ use plan::Plan;
 
 pub mod step;
 
-// What lies past the plan's nodes is neither read nor changed.
+// What is seen of the system from outside: the values that the plane last handed on.
+pub struct Seen {
+    pub handed: [u64; System::ACTUATORS],
+}
+
+// What lies past the plan's nodes and actuators is neither read nor changed.
 pub struct System {
     pub memories: [Memory; System::NODES],
     pub good: [u16; System::NODES],
+    pub seen: Seen,
 }
 
 pub struct Started {
@@ -39,6 +45,8 @@ impl System {
     pub const CELLS: usize = Plan::CELLS;
 
     pub const TASKS: usize = Plan::TASKS;
+
+    pub const ACTUATORS: usize = Plan::ACTUATORS;
 
     pub fn power_on(plan: Plan) -> Started
         ensures { λ r. ⌜ r ≡ systemPowerOnAnswer plan ⌝ }

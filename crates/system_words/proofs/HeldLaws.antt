@@ -10,14 +10,14 @@ use lib.Seq.{ext-getD}
 use borrow.Author.Tests.{eqb-true, eqb-false, ltb-true, ltb-false}
 use Rattle.array.specs.Index.{fill, from}
 use Rattle.array.proofs.TestLaws.{split}
-use Rattle.array.proofs.PlacesLaws.{fill-length, fill-in, fill-out, fill-is, from-length, from-at}
-use Rattle.plan.specs.Limits.{mostNodes, mostCells}
+use Rattle.array.proofs.PlacesLaws.{fill-length, fill-in, fill-out, fill-is, fill-from, from-length, from-at}
+use Rattle.plan.specs.Limits.{mostNodes, mostCells, mostActuators}
 use Rattle.memory.specs.declared.Memory.{Memory}
 use Rattle.memory.specs.Node.{zeroMemory}
 use Rattle.system.specs.declared.System.{System}
 use Rattle.system.specs.System.{zeroSystem}
-use Rattle.system.specs.Frame.{memoryOf, goodOf}
-use Rattle.system_words.specs.Words.{memoryCount, memoryAt, memoryWords, withMemory, nodeAt, goodAt, systemCount, goodIn, systemOfWords, withMemories, withSystem}
+use Rattle.system.specs.Frame.{memoryOf, goodOf, handedOf}
+use Rattle.system_words.specs.Words.{memoryCount, memoryAt, memoryWords, storedFrom, withMemory, nodeAt, goodAt, handedAt, systemCount, goodIn, systemOfWords, withMemories, withSystem}
 use Rattle.system_words.proofs.RecordLaws.{stored-length, stored-in, stored-out, memories-length}
 
 -- ---- a memory
@@ -82,10 +82,11 @@ module _ (ws : List ℕ) (long : length ws ≡ memoryCount) where
 
 -- ---- a system
 
--- a record of seven nodes that a system can have
+-- a record of seven nodes and eight actuators that a system can have
 pub record Shaped (sys : System) : Type 0 where
   pub memories : length (sys .memories) ≡ mostNodes
   pub good : length (sys .good) ≡ mostNodes
+  pub handed : length (sys .seen .handed) ≡ mostActuators
   pub fits : (j : ℕ) → j < mostNodes → Fits (memoryOf sys j)
   pub low : (j : ℕ) → j < mostNodes → goodOf sys j < 2 ^ 16
 
@@ -95,6 +96,7 @@ pub record Held (ws : List ℕ) (sys : System) : Type 0 where
   pub shaped : Shaped sys
   pub memories : (j : ℕ) → j < mostNodes → HeldAt ws (nodeAt j) (memoryOf sys j)
   pub counts : (j : ℕ) → j < mostNodes → getD ws (goodAt + j) 0 ≡ goodOf sys j
+  pub remembered : (a : ℕ) → a < mostActuators → getD ws (handedAt + a) 0 ≡ handedOf sys a
 
 -- they are read to it
 pub held-read : {ws : List ℕ} {sys : System} → Held ws sys → systemOfWords ws ≡ sys
@@ -106,7 +108,10 @@ held-read {ws} {sys} h =
     let good : fill (λ j. min (getD ws (goodAt + j) 0) 65535) mostNodes (zeroSystem .good) ≡ sys .good =
     fill-is _ mostNodes (zeroSystem .good) (sys .good) 0 (length-replicate {A = ℕ} mostNodes 0) (h .shaped .good)
     (λ j l. omega (arith, h .counts j l, h .shaped .low j l)) in
-    rw (memories, good)
+    let handed : from 0 ws handedAt mostActuators ≡ sys .seen .handed =
+    sym (fill-from 0 ws handedAt mostActuators (sys .seen .handed) (h .shaped .handed))
+    ∙ fill-is _ mostActuators (sys .seen .handed) (sys .seen .handed) 0 (h .shaped .handed) (h .shaped .handed) (h .remembered) in
+    rw (memories, good, handed)
 
 -- and no others hold it
 pub held-same : {ws vs : List ℕ} {sys : System} → Held ws sys → Held vs sys → ws ≡ vs
@@ -118,10 +123,15 @@ held-same {ws} {vs} {sys} h g =
     let few : i / 33 < mostNodes = omega (arith, ltb-true i goodAt t) in
     let at : nodeAt (i / 33) + i % 33 ≡ i = omega arith in
     rw at at (h .memories (i / 33) few (i % 33) (omega arith) ∙ sym (g .memories (i / 33) few (i % 33) (omega arith))))
-    (λ t.
-    let few : i - goodAt < mostNodes = omega (arith, h .long, ltb-false i goodAt t) in
+    (λ t. split (ltb i handedAt)
+    (λ u.
+    let few : i - goodAt < mostNodes = omega (arith, ltb-false i goodAt t, ltb-true i handedAt u) in
     let at : goodAt + (i - goodAt) ≡ i = omega (arith, ltb-false i goodAt t) in
-    rw at at (h .counts (i - goodAt) few ∙ sym (g .counts (i - goodAt) few))))
+    rw at at (h .counts (i - goodAt) few ∙ sym (g .counts (i - goodAt) few)))
+    (λ u.
+    let few : i - handedAt < mostActuators = omega (arith, h .long, ltb-false i handedAt u) in
+    let at : handedAt + (i - handedAt) ≡ i = omega (arith, ltb-false i handedAt u) in
+    rw at at (h .remembered (i - handedAt) few ∙ sym (g .remembered (i - handedAt) few)))))
 
 -- words whose counters and good counts are below 2^16 hold the record that they are read to
 pub record Low (ws : List ℕ) : Type 0 where
@@ -138,11 +148,13 @@ low-held {ws} h =
           record {
             memories = fill-length _ mostNodes (zeroSystem .memories) ∙ length-replicate mostNodes zeroMemory;
             good = fill-length _ mostNodes (zeroSystem .good) ∙ length-replicate {A = ℕ} mostNodes 0;
+            handed = from-length 0 ws handedAt mostActuators;
             fits = λ j l. rw (node j l) (memory-fits ws (nodeAt j));
             low = λ j l. rw (count j l) (omega arith);
           };
       memories = λ j l. rw (node j l) (memory-low ws (nodeAt j) (h .counter j l));
       counts = λ j l. rw (count j l) (omega (arith, h .count j l));
+      remembered = λ a l. sym (from-at 0 ws handedAt mostActuators a l);
     }
   where
     node : (j : ℕ) → j < mostNodes → getD (fill (λ k. memoryAt ws (nodeAt k)) mostNodes (zeroSystem .memories)) j zeroMemory ≡ memoryAt ws (nodeAt j)
@@ -151,7 +163,7 @@ low-held {ws} h =
     count : (j : ℕ) → j < mostNodes → getD (fill (λ k. min (getD ws (goodAt + k) 0) 65535) mostNodes (zeroSystem .good)) j 0 ≡ min (getD ws (goodAt + j) 0) 65535
     count j l = fill-in _ mostNodes (zeroSystem .good) j 0 l (omega (arith, length-replicate {A = ℕ} mostNodes 0))
 
--- ---- a record's first n nodes, stored
+-- ---- a record's first n nodes and what the plane remembers, stored
 
 module _ (sys : System) (ws : List ℕ) (long : length ws ≡ systemCount) where
   memories-in : (n j : ℕ) → n ≤ mostNodes → j < n → HeldAt (withMemories sys n ws) (nodeAt j) (memoryOf sys j)
@@ -169,6 +181,13 @@ module _ (sys : System) (ws : List ℕ) (long : length ws ≡ systemCount) where
   memories-out zero i l = refl
   memories-out (suc n) i l = stored-out _ (nodeAt n) (withMemories sys n ws) memoryCount i (λ k b e. omega arith) ∙ memories-out n i (omega arith)
 
+  -- the words before the remembered ones
+  abbrev counted : ℕ → List ℕ
+  counted n = storedFrom (goodOf sys) goodAt n (withMemories sys n ws)
+
+  counted-length : (n : ℕ) → length (counted n) ≡ systemCount
+  counted-length n = stored-length (goodOf sys) goodAt (withMemories sys n ws) n ∙ memories-length sys ws n ∙ long
+
   -- the words hold the record, if those past the nodes did
   pub stored-held :
       (n : ℕ) → n ≤ mostNodes → Shaped sys →
@@ -177,20 +196,23 @@ module _ (sys : System) (ws : List ℕ) (long : length ws ≡ systemCount) where
   unfolding withSystem
   stored-held n few shaped past =
       record {
-        long = stored-length (goodOf sys) goodAt (withMemories sys n ws) n ∙ memories-length sys ws n ∙ long;
+        long = stored-length (handedOf sys) handedAt (counted n) mostActuators ∙ counted-length n;
         shaped = shaped;
         memories = λ j l k h.
-            stored-out (goodOf sys) goodAt (withMemories sys n ws) n (nodeAt j + k) (λ i b e. omega arith)
+            stored-out (handedOf sys) handedAt (counted n) mostActuators (nodeAt j + k) (λ i b e. omega arith)
+            ∙ stored-out (goodOf sys) goodAt (withMemories sys n ws) n (nodeAt j + k) (λ i b e. omega arith)
             ∙ split (ltb j n)
             (λ t. memories-in n j few (ltb-true j n t) k h)
             (λ t. memories-out n (nodeAt j + k) (omega (arith, ltb-false j n t)) ∙ past j (ltb-false j n t) l .0 k h);
         counts = λ j l.
-            split (ltb j n)
+            stored-out (handedOf sys) handedAt (counted n) mostActuators (goodAt + j) (λ i b e. omega arith)
+            ∙ split (ltb j n)
             (λ t. stored-in (goodOf sys) goodAt (withMemories sys n ws) n j (ltb-true j n t) (omega (arith, memories-length sys ws n)))
             (λ t.
             stored-out (goodOf sys) goodAt (withMemories sys n ws) n (goodAt + j) (λ i b e. omega (arith, ltb-false j n t))
             ∙ memories-out n (goodAt + j) (omega arith)
             ∙ past j (ltb-false j n t) l .1);
+        remembered = λ a l. stored-in (handedOf sys) handedAt (counted n) mostActuators a l (omega (arith, counted-length n));
       }
 
   -- record to words to record
@@ -203,21 +225,22 @@ system-words-back {ws} low n few =
     let h : Held ws (systemOfWords ws) = low-held low in
     held-same (stored-held (systemOfWords ws) ws (low .long) n few (h .shaped) (λ j a l. (h .memories j l, h .counts j l))) h
 
--- ---- a record whose first n nodes are others, stored over its words
+-- ---- a record whose first n nodes and first m remembered values are others, stored over its words
 
 filled-at : {A : Type 0} (P : A → Type 0) (f : ℕ → A) (n : ℕ) (l : List A) (j : ℕ) (d : A) → j < length l → P (f j) → P (getD l j d) → P (getD (fill f n l) j d)
 filled-at P f n l j d r new old =
     split (ltb j n) (λ t. subst P (sym (fill-in f n l j d (ltb-true j n t) r)) new) (λ t. subst P (sym (fill-out f n l j d (ltb-false j n t))) old)
 
-module _ (sys : System) (f : ℕ → Memory) (g : ℕ → ℕ) (n : ℕ) where
+module _ (sys : System) (f : ℕ → Memory) (g : ℕ → ℕ) (n : ℕ) (v : ℕ → ℕ) (m : ℕ) where
   abbrev filled : System
-  filled = record { memories = fill f n (sys .memories); good = fill g n (sys .good) }
+  filled = record { memories = fill f n (sys .memories); good = fill g n (sys .good); seen = record { handed = fill v m (sys .seen .handed) } }
 
   pub filled-shaped : ((j : ℕ) → j < mostNodes → Fits (f j)) → ((j : ℕ) → g j < 2 ^ 16) → Shaped sys → Shaped filled
   filled-shaped fits low h =
       record {
         memories = fill-length f n (sys .memories) ∙ h .memories;
         good = fill-length g n (sys .good) ∙ h .good;
+        handed = fill-length v m (sys .seen .handed) ∙ h .handed;
         fits = λ j l. filled-at Fits f n (sys .memories) j zeroMemory (omega (arith, h .memories)) (fits j l) (h .fits j l);
         low = λ j l. filled-at (λ (x : ℕ). x < 2 ^ 16) g n (sys .good) j 0 (omega (arith, h .good)) (low j) (h .low j l);
       }
@@ -235,6 +258,7 @@ zero-shaped =
     record {
       memories = length-replicate mostNodes zeroMemory;
       good = length-replicate {A = ℕ} mostNodes 0;
+      handed = length-replicate {A = ℕ} mostActuators 0;
       fits = λ j l. subst Fits (sym (getD-replicate mostNodes j zeroMemory zeroMemory l)) (record { counter = omega arith; cells = length-replicate {A = ℕ} mostCells 0 });
       low = λ j l. rw (getD-replicate {A = ℕ} mostNodes j 0 0 l) (omega arith);
     }

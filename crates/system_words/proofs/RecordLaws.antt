@@ -12,12 +12,13 @@ use Rattle.array.specs.Index.{fill, from}
 use Rattle.array.proofs.TestLaws.{split}
 use Rattle.array.proofs.PlacedLaws.{placed-length, placed-in, placed-before, placed-after, part-back}
 use Rattle.array.specs.Code.{placed}
-use Rattle.plan.specs.Limits.{mostNodes, mostCells}
+use Rattle.plan.specs.Limits.{mostNodes, mostCells, mostActuators}
 use Rattle.memory.specs.declared.Memory.{Memory}
 use Rattle.memory.specs.Node.{zeroMemory}
+use Rattle.system.specs.declared.Seen.{Seen}
 use Rattle.system.specs.declared.System.{System}
 use Rattle.system.specs.Frame.{memoryOf, goodOf}
-use Rattle.system_words.specs.Words.{memoryCount, memoryAt, storedFrom, memoryWords, withMemory, nodeAt, goodAt, goodIn, systemOfWords, withMemories, withSystem}
+use Rattle.system_words.specs.Words.{memoryCount, memoryAt, storedFrom, memoryWords, withMemory, nodeAt, goodAt, handedAt, goodIn, systemOfWords, withMemories, withSystem}
 
 -- ---- stored word after word
 
@@ -114,13 +115,16 @@ unfolding goodIn
 good-read ws j e h = h ∙ rw e
 
 pub system-made :
-    (ws : List ℕ) {zero : Memory} {memories : List Memory} {good : List ℕ} →
+    (ws : List ℕ) {zero : Memory} {memories : List Memory} {good : List ℕ} {seen : Seen} →
     zero ≡ zeroMemory →
     memories ≡ fill (λ j. memoryAt ws (nodeAt j)) mostNodes (replicate mostNodes zero) →
     good ≡ fill (goodIn ws) mostNodes (replicate mostNodes 0) →
-    _≡_ {A = System} (record { memories = memories; good = good }) (systemOfWords ws)
+    seen .handed ≡ from 0 ws handedAt mostActuators →
+    _≡_ {A = System} (record { memories = memories; good = good; seen = seen }) (systemOfWords ws)
 unfolding systemOfWords
-system-made ws e f g = rw (f, g, e)
+system-made ws {zero} {memories} e f g s =
+    let node : memories ≡ fill (λ j. memoryAt ws (nodeAt j)) mostNodes (replicate mostNodes zeroMemory) = rw e at f in
+    λ i. record { memories = node i; good = g i; seen = record { handed = s i } }
 
 module _ (sys : System) (ws : List ℕ) where
   pub memories-none : withMemories sys 0 ws ≡ ws
@@ -133,9 +137,11 @@ module _ (sys : System) (ws : List ℕ) where
   unfolding withMemories
   memories-more j e f h = rw (add-one j, ← e, ← f) h
 
-  pub system-put : (n : ℕ) → storedFrom (goodOf sys) goodAt n (withMemories sys n ws) ≡ withSystem n sys ws
+  pub system-put :
+      (n : ℕ) {now next : List ℕ} → now ≡ storedFrom (goodOf sys) goodAt n (withMemories sys n ws) →
+      next ≡ storedFrom (λ a. getD (sys .seen .handed) a 0) handedAt mostActuators now → next ≡ withSystem n sys ws
   unfolding withSystem
-  system-put n = refl
+  system-put n e h = h ∙ rw e
 
   pub memories-length : (j : ℕ) → length (withMemories sys j ws) ≡ length ws
   unfolding withMemories withMemory

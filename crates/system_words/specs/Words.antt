@@ -7,11 +7,11 @@ use lib.ListN.{getD, set}
 use Rattle.array.specs.Index.{fill, from}
 use Rattle.answer.specs.declared.Answer.{Answer}
 use Rattle.answer.specs.Refusal.{numberOf, lineOf}
-use Rattle.plan.specs.Limits.{mostNodes, mostCells}
+use Rattle.plan.specs.Limits.{mostNodes, mostCells, mostActuators}
 use Rattle.memory.specs.declared.Memory.{Memory}
 use Rattle.system.specs.declared.System.{System}
 use Rattle.system.specs.System.{zeroSystem}
-use Rattle.system.specs.Frame.{memoryOf, goodOf}
+use Rattle.system.specs.Frame.{memoryOf, goodOf, handedOf}
 
 -- ---- an answer
 
@@ -48,7 +48,7 @@ withMemory m at ws = storedFrom (λ k. getD (memoryWords m) k 0) at memoryCount 
 unfoldable pub memoryGiven : Answer → Memory → List ℕ → List ℕ
 memoryGiven a m ws = ifDone a (withMemory m 0 ws) ws
 
--- ---- a system: the memories of its nodes, then their good counts
+-- ---- a system: the memories of its nodes, their good counts, then the values that the plane remembers
 
 -- where node j's memory begins
 abbrev pub nodeAt : ℕ → ℕ
@@ -57,8 +57,11 @@ nodeAt j = memoryCount * j
 abbrev pub goodAt : ℕ
 goodAt = memoryCount * mostNodes
 
+abbrev pub handedAt : ℕ
+handedAt = goodAt + mostNodes
+
 abbrev pub systemCount : ℕ
-systemCount = goodAt + mostNodes
+systemCount = handedAt + mostActuators
 
 -- a good count above 65,535 reads as 65,535, which is above every recovery period
 unfoldable pub goodIn : List ℕ → ℕ → ℕ
@@ -66,16 +69,20 @@ goodIn ws j = min (getD ws (goodAt + j) 0) 65535
 
 unfoldable pub systemOfWords : List ℕ → System
 systemOfWords ws =
-    record { memories = fill (λ j. memoryAt ws (nodeAt j)) mostNodes (zeroSystem .memories); good = fill (goodIn ws) mostNodes (zeroSystem .good) }
+    record {
+      memories = fill (λ j. memoryAt ws (nodeAt j)) mostNodes (zeroSystem .memories);
+      good = fill (goodIn ws) mostNodes (zeroSystem .good);
+      seen = record { handed = from 0 ws handedAt mostActuators };
+    }
 
 -- words with those of the memories of the first n nodes
 unfoldable pub withMemories : System → ℕ → List ℕ → List ℕ
 withMemories sys zero ws = ws
 withMemories sys (suc j) ws = withMemory (memoryOf sys j) (nodeAt j) (withMemories sys j ws)
 
--- words with those of the first n nodes of a record; all others stay
+-- words with those of the first n nodes of a record and with all 8 remembered values (a frame leaves those past A as they were); all others stay
 unfoldable pub withSystem : ℕ → System → List ℕ → List ℕ
-withSystem n sys ws = storedFrom (goodOf sys) goodAt n (withMemories sys n ws)
+withSystem n sys ws = storedFrom (handedOf sys) handedAt mostActuators (storedFrom (goodOf sys) goodAt n (withMemories sys n ws))
 
 -- a system's words after a call on a plan of n nodes that gives this answer and this record
 unfoldable pub systemGiven : Answer → ℕ → System → List ℕ → List ℕ

@@ -4,20 +4,23 @@ ghost use mathlib.Core.Path.{_≡_};
 ghost use Prim.Native.Nat.{_+_, _%_, _<_, _≤_, min};
 ghost use lib.ListN.{length, getD, set};
 ghost use Rattle.array.specs.Index.{from};
-ghost use Rattle.plan.specs.Limits.{mostNodes, mostCells};
+ghost use Rattle.plan.specs.Limits.{mostNodes, mostCells, mostActuators};
 ghost use Rattle.answer.specs.Refusal.{numberOf};
-ghost use Rattle.system_words.specs.Words.{codeOf, memoryAt, withMemory, systemCount, systemOfWords, withMemories, withSystem, memoryGiven, systemGiven};
+ghost use Rattle.system_words.specs.Words.{codeOf, memoryAt, storedFrom, withMemory, handedAt, systemCount, systemOfWords, withMemories, withSystem, memoryGiven, systemGiven};
 use answer::Answer;
 use memory::Memory;
 use plan::Plan;
+use system::Seen;
 use system::System;
 
-// The words of a memory; where the good counts of a system stand; the words of a system.
+// The words of a memory; where the good counts of a system and its remembered values stand; the words of a system.
 pub const MEMORY: usize = 1 + Plan::CELLS;
 
 pub const GOOD: usize = MEMORY * System::NODES;
 
-pub const SYSTEM: usize = GOOD + System::NODES;
+pub const HANDED: usize = GOOD + System::NODES;
+
+pub const SYSTEM: usize = HANDED + System::ACTUATORS;
 
 pub fn code(answer: Answer) -> u64
     ensures { λ r. ⌜ r ≡ codeOf answer ⌝ }
@@ -103,6 +106,19 @@ fn at_most(x: u64) -> u16
     if x < 65535 { x as u16 } else { 65535 }
 }
 
+// The values that the plane remembers.
+fn seen(words: &[u64]) -> Seen
+    ensures { λ r. ⌜ r .handed ≡ from 0 (now (words .entry)) handedAt mostActuators ⌝ }
+{
+    let mut handed = [0u64; System::ACTUATORS];
+    let mut a: usize = 0;
+    while a < System::ACTUATORS {
+        handed[a] = word(words, HANDED + a);
+        a += 1;
+    }
+    Seen { handed }
+}
+
 pub fn system(words: &[u64]) -> System
     ensures { λ r. ⌜ r ≡ systemOfWords (now (words .entry)) ⌝ }
 {
@@ -116,7 +132,11 @@ pub fn system(words: &[u64]) -> System
         good[j] = at_most(word(words, GOOD + j));
         j += 1;
     }
-    System { memories, good }
+    System {
+        memories,
+        good,
+        seen: seen(words),
+    }
 }
 
 fn put_memories(nodes: usize, system: System, words: &mut [u64])
@@ -131,7 +151,18 @@ fn put_memories(nodes: usize, system: System, words: &mut [u64])
     }
 }
 
-// The words of the first nodes of a record; all others stay.
+fn put_seen(seen: Seen, words: &mut [u64])
+    ensures { λ _. ⌜ now (words .exit) ≡ storedFrom (λ a. getD (seen .handed) a 0) handedAt mostActuators (now (words .entry)) ⌝ }
+{
+    let mut k: usize = 0;
+    while k < System::ACTUATORS {
+        let x = seen.handed[k];
+        put_word(words, HANDED + k, x);
+        k += 1;
+    }
+}
+
+// The words of the first nodes of a record and of what the plane remembers; all others stay.
 pub fn put_system(nodes: usize, system: System, words: &mut [u64])
     requires { ⌜ nodes ≤ mostNodes ⌝ }
     ensures { λ _. ⌜ now (words .exit) ≡ withSystem nodes system (now (words .entry)) ⌝ }
@@ -143,6 +174,7 @@ pub fn put_system(nodes: usize, system: System, words: &mut [u64])
         put_word(words, GOOD + j, x as u64);
         j += 1;
     }
+    put_seen(system.seen, words);
 }
 
 // ---- after a call: beside a refusal every word stays
@@ -155,7 +187,7 @@ pub fn give_memory(answer: Answer, memory: Memory, words: &mut [u64])
     }
 }
 
-pub fn give_system(answer: Answer, nodes: usize, system: System, words: &mut [u64])
+pub fn give_system(answer: Answer, nodes: usize, system: System, words: &mut [u64; SYSTEM])
     requires { ⌜ (numberOf answer ≡ 0 → nodes ≤ mostNodes) ⌝ }
     ensures { λ _. ⌜ now (words .exit) ≡ systemGiven answer nodes system (now (words .entry)) ⌝ }
 {

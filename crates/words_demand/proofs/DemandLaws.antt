@@ -1,4 +1,4 @@
--- The exported calls carry a record from call to call in its words: so demand 3 holds of them.
+-- The exported calls carry a record from call to call in its words: so demand 3 holds of them, and what the plane remembers is right.
 use mathlib.Core.Path.{_≡_, refl, sym, ap, ap₂, _∙_}
 use mathlib.Core.Bool.{true}
 use mathlib.Core.List.{List, [], _∷_}
@@ -38,10 +38,11 @@ use Rattle.system.specs.Frame.{memoryOf, computedBy, mailboxOf, memoryAfter, sy
 use Rattle.system.specs.FrameCall.{frameTests, frameAnswer}
 use Rattle.system.specs.Demand.{next, answers, places, finally, OnePlan, Tolerated}
 use Rattle.system.proofs.DemandLaws.{demand3}
+use Rattle.system.proofs.SeenLaws.{remembered}
 use Rattle.system_words.specs.Words.{ifDone, memoryCount, memoryWords, nodeAt, systemCount, withSystem, systemGiven}
 use Rattle.system_words.proofs.HeldLaws.{Fits, Shaped, Held, held-read, stored-held, filled-shaped, filled-held, zero-shaped}
 use Rattle.words_demand.specs.Calls.{wordsStarted}
-use Rattle.words_demand.specs.Demand.{WordsCall, callOf, calls, wordsNext, codes, wordsPlaces, wordsFinally, codesOf, OneWords, Demand3OfWords}
+use Rattle.words_demand.specs.Demand.{WordsCall, callOf, calls, wordsNext, codes, wordsPlaces, wordsFinally, codesOf, OneWords, Demand3OfWords, RememberedOfWords}
 
 -- ---- a frame leaves a record that words can hold
 
@@ -82,18 +83,18 @@ module _ (p : Plan) (shape : Shape p) (sys : System) (shaped : Shaped sys) (sens
 
   after-shaped : Shaped (systemAfter p sys sensors mask faults)
   unfolding systemAfter
-  after-shaped = filled-shaped sys _ _ (p .nodes) after-fits good-fits shaped
+  after-shaped = filled-shaped sys _ _ (p .nodes) _ (p .actuators) after-fits good-fits shaped
 
   frame-held : {ws : List ℕ} → Held ws sys → Held (withSystem (p .nodes) (systemAfter p sys sensors mask faults) ws) (systemAfter p sys sensors mask faults)
   unfolding systemAfter after-shaped
-  frame-held h = filled-held sys _ _ (p .nodes) h after-shaped (shape .nodes-high)
+  frame-held h = filled-held sys _ _ (p .nodes) _ (p .actuators) h after-shaped (shape .nodes-high)
 
 -- ---- power-on
 
 powerOn-shaped : (p : Plan) → Shape p → Shaped (powerOn p)
 unfolding powerOn
 powerOn-shaped p shape =
-    filled-shaped zeroSystem _ _ (p .nodes) (λ j l. record { counter = omega (arith, poweredOn-counter p); cells = poweredOn-length p shape }) (λ j. period-fits p shape) zero-shaped
+    filled-shaped zeroSystem _ _ (p .nodes) _ (p .actuators) (λ j l. record { counter = omega (arith, poweredOn-counter p); cells = poweredOn-length p shape }) (λ j. period-fits p shape) zero-shaped
 
 start-held : (plan start : List ℕ) → accepted (planOfWords plan) ≡ true → length start ≡ systemCount → Held (wordsStarted plan start) (powerOn (planOfWords plan))
 unfolding systemGiven ifDone systemPowerOnAnswer checked ifPassed planTests passed answered
@@ -159,3 +160,10 @@ demand3-of-words plan accept start long cs one most =
       refusals = carried-answers cs h ∙ ap codesOf (t .refusals);
       memories = λ i l good. words-of (carried-record cs h) i (omega (arith, shape-of-accepted (planOfWords plan) accept .nodes-high)) ∙ ap memoryWords (t .memories i l good);
     }
+
+-- ---- what the plane remembers
+
+pub remembered-of-words : RememberedOfWords
+remembered-of-words plan accept start long cs one most a l =
+    carried-record cs (start-held plan start accept long) .remembered a (omega (arith, shape-of-accepted (planOfWords plan) accept .actuators-le))
+    ∙ remembered (planOfWords plan) accept (calls cs) (one-of plan cs one) most a l

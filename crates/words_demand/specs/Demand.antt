@@ -4,16 +4,16 @@ use mathlib.Core.Path.{_≡_}
 use mathlib.Core.Bool.{true, false}
 use mathlib.Core.List.{List, [], _∷_}
 use mathlib.Core.Logic.{_⊎_}
-use Prim.Native.Nat.{ℕ, _^_, _<_}
+use Prim.Native.Nat.{ℕ, _+_, _^_, _<_}
 use lib.ListN.{length, getD, take}
 use Rattle.array.specs.Index.{from}
 use Rattle.answer.specs.declared.Answer.{Answer}
 use Rattle.plan.specs.Known.{period}
 use Rattle.plan.specs.Accepted.{accepted}
 use Rattle.plan_words.specs.Words.{planOfWords}
-use Rattle.memory.specs.Node.{poweredOn}
+use Rattle.memory.specs.Node.{poweredOn, setpoint}
 use Rattle.system.specs.Demand.{Call, singlePlaces, singleFinally, callAnswers, masks, goodIn, Premise}
-use Rattle.system_words.specs.Words.{codeOf, memoryCount, memoryWords, nodeAt, systemCount}
+use Rattle.system_words.specs.Words.{codeOf, memoryCount, memoryWords, nodeAt, handedAt, systemCount}
 use Rattle.words_demand.specs.Calls.{wordsStarted, framedBy, wordsFramed, placeFramed}
 
 -- a call of `ragbasalt_system_frame`, all but the system's words
@@ -89,3 +89,12 @@ abbrev pub Demand3OfWords : Type 0
 Demand3OfWords =
     (plan : List ℕ) → accepted (planOfWords plan) ≡ true → (start : List ℕ) → length start ≡ systemCount →
     (cs : List WordsCall) → OneWords plan cs → Premise (planOfWords plan) (calls cs) [] → WordsTolerated plan start cs
+
+-- ---- request 2026-06: under the same premise the first A of the 8 remembered words are the single controller's setpoints after every list, the empty one too
+
+abbrev pub RememberedOfWords : Type 0
+RememberedOfWords =
+    (plan : List ℕ) → accepted (planOfWords plan) ≡ true → (start : List ℕ) → length start ≡ systemCount →
+    (cs : List WordsCall) → OneWords plan cs → Premise (planOfWords plan) (calls cs) [] →
+    (a : ℕ) → a < planOfWords plan .actuators →
+    getD (wordsFinally (wordsStarted plan start) cs) (handedAt + a) 0 ≡ setpoint (planOfWords plan) (singleFinally (poweredOn (planOfWords plan)) (calls cs)) a

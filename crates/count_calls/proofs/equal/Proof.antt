@@ -36,7 +36,7 @@ returns-3 c =
     let ok = accepted-of-period _ (r .ensures) (c .before .before .before .before .before .before .before .before .before .before .before .before .before .before .before .before .before .if1 .left) in
     let tests = counts-are (a .plan) (a .t2) 0 (r .ensures ∙ accepted-period _ ok) (c .before .before .before .before .before .before .before .before .before .before .before .before .before .before .counts-ok .ensures) in
     equal-done _ _ _ ok (passed-test tests (c .before .before .before .before .before .before .before .before .before .before .before .before .before .if2 .left))
-    (c .equal .ensures ∙ equal-is (a .plan) (a .t2) (a .memory) _ _ _ (a .plan .nodes) (c .before .before .before .before .before .unpack .ensures .0) (c .before .before .before .before .before .unpack .ensures .1 ∙ c .before .before .before .before .before .before .before .before .before .before .put-memory .ensures .here) refl (shape-of-accepted _ ok .nodes-high))
+    (c .equal .ensures ∙ equal-is (a .plan) (a .t2) (a .memory) _ _ _ _ (a .plan .nodes) (c .before .before .before .before .before .unpack .ensures .0) (c .before .before .before .before .before .unpack .ensures .1 ∙ c .before .before .before .before .before .before .before .before .before .before .put-memory .ensures .here) refl (shape-of-accepted _ ok .nodes-high))
 
 pub equal-spec : {M : Type 1} → statement M
 equal-spec =

@@ -34,11 +34,12 @@ lengths-ok-requires c κs =
 
 returns-3 : tie.Need-returns-3
 returns-3 c =
-    let r = c .before .before .before .before .before .before .before .before .accepted-period in
-    let a = c .before .before .before .before .before .before .before .before .before .before .before .before .args in
-    let ok = accepted-of-period _ (r .ensures) (c .before .before .before .before .before .before .before .if1 .left) in
-    let tests = mask-are (a .plan) (a .t2) (a .mask) (r .ensures ∙ accepted-period _ ok) (c .before .before .before .before .before .before .mask-ok .ensures) (c .before .before .before .counts-ok .ensures) in
-    frame-length _ _ _ _ _ _ ok (passed-test tests (c .before .before .if2 .left)) (refused-test (c .before .lengths-ok .ensures) (c .if3 .taken))
+    let here = c in
+    let r = here .before .before .before .before .before .before .before .before .accepted-period in
+    let a = here .before .before .before .before .before .before .before .before .before .before .before .before .args in
+    let ok = accepted-of-period _ (r .ensures) (here .before .before .before .before .before .before .before .if1 .left) in
+    let tests = mask-are (a .plan) (a .t2) (a .mask) (r .ensures ∙ accepted-period _ ok) (here .before .before .before .before .before .before .mask-ok .ensures) (here .before .before .before .counts-ok .ensures) in
+    frame-length _ _ _ _ _ _ ok (passed-test tests (here .before .before .if2 .left)) (refused-test (here .before .lengths-ok .ensures) (here .if3 .taken))
 
 on-rows-requires : tie.Need-on-rows-requires
 on-rows-requires c κs =

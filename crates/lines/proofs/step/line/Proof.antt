@@ -8,6 +8,7 @@ use Rattle.plan.proofs.AcceptedLaws.{shape-of-accepted}
 use Rattle.system.specs.Fault.{faultsSize}
 use Rattle.faults.proofs.LayoutLaws.{most-enough, held-zero}
 use Rattle.row_frame.proofs.FrameLaws.{sizes-small}
+use Rattle.rows.proofs.RowLaws.{rows-seen}
 use Rattle.run_line.specs.Listing.{lineNumbers}
 use Rattle.lines.proofs.StepLaws.{front-length}
 use Rattle.lines.proofs.RowsLaws.{sizes-are, step-made}
@@ -25,29 +26,29 @@ frame-numbers-requires c κs = let h = shape-of-accepted (c .before .before .bef
 
 part-faults-end : tie.Need-part-faults-end
 part-faults-end c =
-    let p = c .before .before .before .before .before .before .before .before .before .before .before .before .before .before .before .before .before .before .before .before .before .args .plan in
-    let q = c .before .before .before .before .before .before .before .before .before .before .before .before .before .before .before .before .before .before .before .before .before .pre in
-    let s = c .before .before .before .before .before .before .before .before .before .before .before .before .before .before .before .before .before .before .sizes-with .result in
-    omega (arith, c .before .before .before .before .before .before .before .before .before .before .before .before .before .before .before .before .before .size .ensures, most-enough s (sizes-small p (q .0) s (sizes-are p (c .before .before .before .before .before .before .before .before .before .before .before .before .before .before .before .before .before .before .sizes-with .ensures) (q .1)) .0))
+    let p = c .before .before .before .before .before .before .before .before .before .before .before .before .before .before .before .before .before .before .before .before .before .before .args .plan in
+    let q = c .before .before .before .before .before .before .before .before .before .before .before .before .before .before .before .before .before .before .before .before .before .before .pre in
+    let s = c .before .before .before .before .before .before .before .before .before .before .before .before .before .before .before .before .before .before .before .sizes-with .result in
+    omega (arith, c .before .before .before .before .before .before .before .before .before .before .before .before .before .before .before .before .before .before .size .ensures, most-enough s (sizes-small p (q .0) s (sizes-are p (c .before .before .before .before .before .before .before .before .before .before .before .before .before .before .before .before .before .before .before .sizes-with .ensures) (q .1)) .0))
 
 line-on-rows-requires : tie.Need-line-on-rows-requires
 unfolding lineNumbers
 line-on-rows-requires c κs =
-    let a = c .before .before .before .before .before .before .before .before .before .before .before .before .before .before .before .before .before .before .before .before .before .before .before .before .before .before .args in
+    let a = c .before .before .before .before .before .before .before .before .before .before .before .before .before .before .before .before .before .before .before .before .before .before .before .before .before .before .before .before .args in
     let p = a .plan in
-    let q = c .before .before .before .before .before .before .before .before .before .before .before .before .before .before .before .before .before .before .before .before .before .before .before .before .before .before .pre in
-    let s = c .before .before .before .before .before .before .before .before .before .before .before .before .before .before .before .before .before .before .before .before .before .before .before .sizes-with .result in
-    let e = sizes-are p (c .before .before .before .before .before .before .before .before .before .before .before .before .before .before .before .before .before .before .before .before .before .before .before .sizes-with .ensures) (q .1) in
+    let q = c .before .before .before .before .before .before .before .before .before .before .before .before .before .before .before .before .before .before .before .before .before .before .before .before .before .before .before .before .pre in
+    let s = c .before .before .before .before .before .before .before .before .before .before .before .before .before .before .before .before .before .before .before .before .before .before .before .before .before .sizes-with .result in
+    let e = sizes-are p (c .before .before .before .before .before .before .before .before .before .before .before .before .before .before .before .before .before .before .before .before .before .before .before .before .before .sizes-with .ensures) (q .1) in
     let l : faultsSize s ≤ 14896 = most-enough s (sizes-small p (q .0) s e .0) in
-    (q .0, e, (a .line .now, c .before .before .before .before .before .before .before .before .frame-numbers .ensures), refl, front-length (replicate 14896 0) (c .before .before .before .before .before .before .before .before .before .before .before .before .before .before .before .before .before .before .before .before .before .before .size .ensures) l, held-zero s 14896 0 (c .before .before .before .before .before .before .before .before .before .before .before .before .before .before .before .before .before .before .before .before .before .before .size .result - 0), search needs, search needs, q .2, c .before .before .before .before .before .before .before .before .before .before .before .before .before .before .before .before .before .before .before .before .before .table .ensures)
+    (q .0, e, (a .line .now, c .before .before .before .before .before .before .before .before .before .before .frame-numbers .ensures), refl, front-length (replicate 14896 0) (c .before .before .before .before .before .before .before .before .before .before .before .before .before .before .before .before .before .before .before .before .before .before .before .before .size .ensures) l, held-zero s 14896 0 (c .before .before .before .before .before .before .before .before .before .before .before .before .before .before .before .before .before .before .before .before .before .before .before .before .size .result - 0), search needs, search needs, q .2, c .before .before .before .before .before .before .before .before .before .before .before .before .before .before .before .before .before .before .before .before .before .before .before .table .ensures)
 
 returns : tie.Need-returns
 unfolding lineNumbers
 returns c =
-    let a = c .before .before .before .before .before .before .before .before .before .before .before .before .before .before .before .before .before .before .before .before .before .before .before .before .before .before .before .before .before .before .before .before .before .before .before .before .before .before .args in
-    let u = c .before .before .before .before .before .before .before .before .before .before .before .before .before .before .before .before .before .before .before .before .before .before .before .before .unpack .ensures in
-    step-made (a .plan) (a .system) (a .single) (a .frame) (a .out .now) _ (u .1 ∙ c .before .before .before .before .before .before .before .before .before .before .before .before .before .before .before .before .before .before .before .before .before .before .before .before .before .before .before .before .before .put-memory .ensures .here) (c .before .before .before .before .before .before .before .before .before .before .before .before .before .before .before .before .before .before .before .before .frame-numbers .ensures)
-    (c .before .before .before .before .before .before .before .before .before .before .before .line-on-rows .ensures .2 (a .system) (u .0))
+    let a = c .before .before .before .before .before .before .before .before .before .before .before .before .before .before .before .before .before .before .before .before .before .before .before .before .before .before .before .before .before .before .before .before .before .before .before .before .before .before .before .before .args in
+    let u = c .before .before .before .before .before .before .before .before .before .before .before .before .before .before .before .before .before .before .before .before .before .before .before .before .before .before .unpack .ensures in
+    step-made (a .plan) (a .system) (a .single) (a .frame) (a .out .now) _ (u .1 ∙ c .before .before .before .before .before .before .before .before .before .before .before .before .before .before .before .before .before .before .before .before .before .before .before .before .before .before .before .before .before .before .before .put-memory .ensures .here) (c .before .before .before .before .before .before .before .before .before .before .before .before .before .before .before .before .before .before .before .before .before .before .frame-numbers .ensures)
+    (c .before .before .before .before .before .before .before .before .before .before .before .line-on-rows .ensures .2 (a .system) (rows-seen (c .before .before .before .before .before .before .before .before .before .before .before .before .before .before .before .before .before .before .before .before .before .seen-words .ensures) (u .0)))
     (c .before .before .before .pack .ensures)
     (c .memory .ensures)
 
@@ -65,6 +66,7 @@ line-spec =
     (λ c. search needs)
     (λ c κs. search needs)
     frame-numbers-requires
+    (λ c κs. search needs)
     (λ c. search needs)
     (λ c. search needs)
     part-faults-end

@@ -35,12 +35,12 @@ part-finish-line-end c =
 
 finish-line-requires : tie.Need-finish-line-requires
 finish-line-requires c κs =
-    let a = c .before .before .before .before .before .before .before .before .before .before .before .before .before .before .before .before .before .before .before .args in
-    let q = c .before .before .before .before .before .before .before .before .before .before .before .before .before .before .before .before .before .before .before .pre in (
+    let a = c .before .before .before .before .before .before .before .before .before .before .before .before .before .before .before .before .before .before .before .before .args in
+    let q = c .before .before .before .before .before .before .before .before .before .before .before .before .before .before .before .before .before .before .before .before .pre in (
       q .0,
       q .1,
-      read-within (a .plan) (a .s) (q .1) (a .frame) (a .patterns .now) (c .before .before .before .before .before .before .before .before .before .before .before .before .before .read .given .1) (q .2) .count,
-      parts-all (a .s) _ _ (omega (arith, c .before .before .before .before .before .before .before .before .hold .ensures .1)),
+      read-within (a .plan) (a .s) (q .1) (a .frame) (a .patterns .now) (c .before .before .before .before .before .before .before .before .before .before .before .before .before .before .read .given .1) (q .2) .count,
+      parts-all (a .s) _ _ (omega (arith, c .before .before .before .before .before .before .before .before .before .hold .ensures .1)),
       q .6,
       q .7,
       q .8,
@@ -49,16 +49,16 @@ finish-line-requires c κs =
 
 returns-2 : tie.Need-returns-2
 returns-2 c =
-    let a = c .before .before .before .before .before .before .before .before .before .before .before .before .before .before .before .before .before .before .before .before .before .before .before .before .before .before .args in
-    let q = c .before .before .before .before .before .before .before .before .before .before .before .before .before .before .before .before .before .before .before .before .before .before .before .before .before .before .pre in
-    let held : List ℕ = c .before .before .before .before .before .before .before .before .before .before .before .before .before .before .before .hold .last .1 .1 .1 .0 in
-    let faults : List ℕ = c .before .before .before .before .before .before .before .before .before .before .before .before .before .before .before .hold .last .1 .1 .1 .1 .0 in
-    let bad : BadHold (a .s) _ faults _ = held-bad (a .s) _ _ (a .held .now) held faults (c .before .before .before .before .before .before .before .before .before .before .before .before .before .before .before .hold .ensures .0) (q .3) (sizes-small (a .plan) (q .0) (a .s) (q .1) .0 .nodes) (c .before .before .before .before .before .before .before .before .before .before .before .before .before .before .before .hold .ensures .2) in (
-      ap length (c .before .before .before .before .before .before .before .before .before .before .before .before .before .before .before .hold .ensures .0) ∙ fill-length _ (a .s .nodes) (a .held .now) ∙ q .3,
-      c .before .before .before .before .before .before .before .before .before .before .before .before .before .before .before .hold .ensures .2,
+    let a = c .before .before .before .before .before .before .before .before .before .before .before .before .before .before .before .before .before .before .before .before .before .before .before .before .before .before .before .args in
+    let q = c .before .before .before .before .before .before .before .before .before .before .before .before .before .before .before .before .before .before .before .before .before .before .before .before .before .before .before .pre in
+    let held : List ℕ = c .before .before .before .before .before .before .before .before .before .before .before .before .before .before .before .before .hold .last .1 .1 .1 .0 in
+    let faults : List ℕ = c .before .before .before .before .before .before .before .before .before .before .before .before .before .before .before .before .hold .last .1 .1 .1 .1 .0 in
+    let bad : BadHold (a .s) _ faults _ = held-bad (a .s) _ _ (a .held .now) held faults (c .before .before .before .before .before .before .before .before .before .before .before .before .before .before .before .before .hold .ensures .0) (q .3) (sizes-small (a .plan) (q .0) (a .s) (q .1) .0 .nodes) (c .before .before .before .before .before .before .before .before .before .before .before .before .before .before .before .before .hold .ensures .2) in (
+      ap length (c .before .before .before .before .before .before .before .before .before .before .before .before .before .before .before .before .hold .ensures .0) ∙ fill-length _ (a .s .nodes) (a .held .now) ∙ q .3,
+      c .before .before .before .before .before .before .before .before .before .before .before .before .before .before .before .before .hold .ensures .2,
       λ sys h.
           let f = c .before .before .before .before .before .before .finish-line .ensures sys _ h bad in
-          made-run (a .plan) sys _ (a .frame) (a .out .now) (_ ∷ _ ∷ _) (read-numbers (a .plan) (a .s) (q .1) (a .frame) (a .patterns .now) (c .before .before .before .before .before .before .before .before .before .before .before .before .before .before .before .before .before .before .before .before .read .given .1)) (f .0) (f .1) (f .2),
+          made-run (a .plan) sys _ (a .frame) (a .out .now) (_ ∷ _ ∷ _) (read-numbers (a .plan) (a .s) (q .1) (a .frame) (a .patterns .now) (c .before .before .before .before .before .before .before .before .before .before .before .before .before .before .before .before .before .before .before .before .before .read .given .1)) (f .0) (f .1) (f .2),
     )
 
 pub line-on-rows-spec : {M : Type 1} → statement M

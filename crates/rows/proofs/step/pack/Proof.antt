@@ -14,10 +14,10 @@ use Rattle.rows.proofs.step.pack.Statement.{statement}
 use Rattle.rows.proofs.step.pack.Tie as tie
 
 abbrev Inv-loop : tie.InvT-loop
-Inv-loop counters cells good memories₀ j₀ memories j = (j ≤ mostNodes) × (memories ≡ fill (λ i. memoryIn counters cells (i + 1)) j memories₀)
+Inv-loop counters cells good seen memories₀ j₀ memories j = (j ≤ mostNodes) × (memories ≡ fill (λ i. memoryIn counters cells (i + 1)) j memories₀)
 
 abbrev μ-loop : tie.MeasureT-loop
-μ-loop counters cells good memories₀ j₀ memories j = mostNodes - j
+μ-loop counters cells good seen memories₀ j₀ memories j = mostNodes - j
 
 loop-holds : tie.Need-loop-holds Inv-loop μ-loop
 loop-holds c = (search needs, sym (fill-none _ _))
@@ -26,7 +26,11 @@ loop-again : tie.Need-loop-again Inv-loop μ-loop
 loop-again c = (search needs, stored-next _ _ _ (c .before .before .loop .inv .1) (c .memory2 .ensures))
 
 returns : tie.Need-returns Inv-loop μ-loop
-returns c = packed-is (c .before .before .before .before .before .args .counters .now) (c .before .before .before .before .before .args .cells .now) (c .before .before .before .before .before .args .good) _ _ (length-replicate mostNodes (c .before .before .memory .result)) (stored-all _ _ _ (c .before .loop .inv .1) (omega arith))
+returns c =
+    let a = c .before .before .before .before .before .before .args in
+    packed-is (a .counters .now) (a .cells .now) (a .good) (a .seen) (c .seen-of .result) _ _ (c .seen-of .ensures)
+    (length-replicate mostNodes (c .before .before .before .memory .result))
+    (stored-all _ _ _ (c .before .before .loop .inv .1) (omega arith))
 
 pub pack-spec : {M : Type 1} → statement M
 pack-spec =
@@ -43,4 +47,5 @@ pack-spec =
     (λ c. search needs)
     (λ c. search needs)
     loop-again
+    (λ c κs. search needs)
     returns)

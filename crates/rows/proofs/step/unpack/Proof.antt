@@ -4,7 +4,7 @@ use Prim.Native.Nat.{_-_, _≤_}
 use native.Mathlib.Omega.{arith}
 use lib.ListN.{length}
 use borrow.Author.Needs.{needs}
-use Rattle.plan.specs.Limits.{mostNodes}
+use Rattle.plan.specs.Limits.{mostNodes, mostActuators}
 use Rattle.array.proofs.LoopLaws.{any-default, length-mapped}
 use Rattle.rows.specs.Code.{rowCount, wordCount}
 use Rattle.rows.proofs.RowLaws.{Unpacked, unpacked-none, unpacked-next, rows-unpacked}
@@ -30,8 +30,9 @@ returns : tie.Need-returns Inv-loop μ-loop
 returns c = let a = c .before .before .before .before .args in
     let l = c .before .loop in
     let n : length (a .t1 .memories) ≡ mostNodes = search (needs, length-mapped) in
+    let m : length (a .t1 .seen .handed) ≡ mostActuators = search needs in
     let e : l .j ≡ mostNodes = omega arith in
-    rows-unpacked (a .t1) n (l .inv .3) e
+    rows-unpacked (a .t1) n m (l .inv .3) e
 
 pub unpack-spec : {M : Type 1} → statement M
 unpack-spec =

@@ -1,4 +1,4 @@
--- `system_words::step::put_system` meets its contract: the first j counts are stored behind the memories.
+-- `system_words::step::put_system` meets its contract: the first j counts are stored behind the memories, and behind them what is seen.
 use mathlib.Core.Path.{_≡_, sym, _∙_}
 use Prim.Native.Nat.{_-_, _≤_}
 use native.Mathlib.Omega.{arith}
@@ -22,8 +22,12 @@ put-system-spec =
     (λ c. search needs) (λ c. search needs) (λ c. search needs) (λ c. search needs) (λ c κs. search needs) (λ c. search needs)
     (λ c. search needs)
     (λ c. let loop = c .before .before .before .before .before .before .loop in (search needs, loop .inv .1, stored-more _ _ _ (loop .j) (loop .inv .2) (c .before .before .put-word .ensures)))
-    (λ c. stored-kept _ _ _ (c .before .loop .j) (c .before .loop .inv .2) ∙ c .before .before .before .before .put-memories .kept .1 .1 .0)
+    (λ c κs. search needs)
     (λ c.
-    let memories = c .before .before .before .before in
-    let e : c .before .loop .j ≡ memories .before .before .before .args .nodes = omega arith in
-    rw (e, memories .put-memories .ensures) at (c .before .loop .inv .2) ∙ system-put _ _ _))
+    let counted = c .before .before .before .before .before .before in
+    c .before .before .put-seen .kept .1 .0 ∙ stored-kept _ _ _ (counted .loop .j) (counted .loop .inv .2) ∙ counted .before .before .before .put-memories .kept .1 .1 .0)
+    (λ c.
+    let counted = c .before .before .before .before .before .before in
+    let memories = counted .before .before .before in
+    let e : counted .loop .j ≡ memories .before .before .before .args .nodes = omega (arith, c .before .before .before .before .before .loop-test .left) in
+    system-put _ _ _ (rw (e, memories .put-memories .ensures) at (counted .loop .inv .2)) (c .before .before .put-seen .ensures)))

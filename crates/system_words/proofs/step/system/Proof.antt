@@ -1,4 +1,4 @@
--- `system_words::step::system` meets its contract: the first j memories and counts are read.
+-- `system_words::step::system` meets its contract: the first j memories and counts are read, then what is seen.
 use mathlib.Core.Path.{_≡_, sym}
 use Prim.Native.Nat.{_-_, _≤_}
 use native.Mathlib.Omega.{arith}
@@ -27,6 +27,7 @@ system-spec =
     (λ c.
     let inv = c .before .before .before .before .loop .inv in
     (search needs, stored-next _ _ _ (inv .1) (c .before .before .memory .ensures), stored-next _ _ _ (inv .2) (good-read _ _ (c .before .word .ensures) (c .at-most .ensures))))
+    (λ c κs. search needs)
     (λ c.
-    let inv = c .before .loop .inv in
-    system-made _ (c .before .before .zero-memory .ensures) (stored-all _ _ _ (inv .1) (omega arith)) (stored-all _ _ _ (inv .2) (omega arith))))
+    let inv = c .before .before .loop .inv in
+    system-made _ (c .before .before .before .zero-memory .ensures) (stored-all _ _ _ (inv .1) (omega arith)) (stored-all _ _ _ (inv .2) (omega arith)) (c .seen .ensures)))
