@@ -4,6 +4,9 @@
 #[path = "../tests/reference/calls.rs"]
 mod calls;
 #[allow(dead_code)]
+#[path = "../tests/reference/card.rs"]
+mod card;
+#[allow(dead_code)]
 #[path = "../tests/reference/frame.rs"]
 mod frame;
 #[allow(dead_code)]
@@ -28,12 +31,21 @@ mod random;
 use library::*;
 use std::hint::black_box;
 
-const NAMES: [&str; 22] = [
+const NAMES: [&str; 30] = [
     "plan_read", "plan_write", "plan_check", "plan_period", "message_size", "mailbox_size", "faults_size", "text_size",
     "node_power_on", "node_compute", "node_message", "node_vote", "node_setpoints", "single_frame",
     "system_power_on", "system_frame", "system_working", "system_equal", "plan_histories",
     "listing_start", "listing_next", "listing_refusal",
+    "card_power_on", "card_read", "card_write", "card_deliver", "tick_compute", "tick_broadcast", "tick_vote", "tick_sync",
 ];
+
+/// The first of the ticks; each sets the phase that it leaves, whose word is behind the memory's.
+const TICKS: usize = 26;
+const PHASE: usize = 33;
+
+/// The byte of a card's page that is read, the flags, and the one that is written, the mask.
+const FLAGS: u64 = 3;
+const MASK: u64 = 4;
 
 /// The frames of a history, the most that are listed.
 const FRAMES: usize = 4;
@@ -60,12 +72,15 @@ struct Lent {
     faults: Vec<u8>,
     run: Vec<u64>,
     line: Vec<u8>,
+    card: Vec<u64>,
+    bins: Vec<u8>,
+    byte: u8,
     number: usize,
 }
 
 impl Lent {
     /// A system and a run at power-on, a node before the plan's last frame, where the scan of the tasks is longest, and a mailbox of messages equal to its own, so that a vote takes it
-    /// there again.
+    /// there again; a card of that node, whose bins hold these messages.
     fn of(text: Vec<u8>, mask: u64) -> Lent {
         let mut l = Lent {
             text,
@@ -81,6 +96,9 @@ impl Lent {
             faults: vec![],
             run: vec![0; 281],
             line: vec![],
+            card: vec![0; 36],
+            bins: vec![0; 1_813],
+            byte: 0,
             number: 0,
         };
         assert_eq!(ours(19, &mut l), 0, "the plan is not accepted");
@@ -98,17 +116,24 @@ impl Lent {
             assert_eq!(ours(index, &mut l), 0);
         }
         l.mailbox = l.message.repeat(l.words[0] as usize);
+        l.card[..PHASE].copy_from_slice(&l.memory);
+        for (bin, message) in l.bins.chunks_mut(1 + l.message.len()).zip(l.mailbox.chunks(l.message.len())) {
+            bin[0] = 1;
+            bin[1..].copy_from_slice(message);
+        }
         l
     }
 }
 
 fn ours(index: usize, l: &mut Lent) -> u64 {
+    enter(index, l);
     let plan = l.words.as_ptr();
     let (memory, system, run) = (l.memory.as_mut_ptr(), l.system.as_mut_ptr(), l.run.as_mut_ptr());
     let (text, length) = (l.text.as_ptr(), l.text.len());
     let (sensors, read) = (l.sensors.as_ptr(), l.sensors.len());
     let (place, actuators) = (l.place.as_mut_ptr(), l.place.len());
     let (out, room) = (l.out.as_mut_ptr(), l.out.len());
+    let (card, bins) = (l.card.as_mut_ptr(), l.bins.as_mut_ptr());
     unsafe {
         match index {
             0 => ragbasalt_plan_read(text, length, l.words.as_mut_ptr()),
@@ -132,13 +157,29 @@ fn ours(index: usize, l: &mut Lent) -> u64 {
             18 => ragbasalt_plan_histories(plan, FRAMES, out, room, &mut l.number),
             19 => ragbasalt_listing_start(text, length, l.words.as_mut_ptr(), run),
             20 => ragbasalt_listing_next(plan, run, l.line.as_ptr(), l.line.len(), out, room, &mut l.number),
-            _ => ragbasalt_listing_refusal(REFUSAL, out, room, &mut l.number),
+            21 => ragbasalt_listing_refusal(REFUSAL, out, room, &mut l.number),
+            22 => ragbasalt_card_power_on(plan, card, bins),
+            23 => ragbasalt_card_read(plan, card, FLAGS, &mut l.byte),
+            24 => ragbasalt_card_write(plan, card, MASK, 3),
+            25 => ragbasalt_card_deliver(plan, card, bins, l.words[0] - 1, l.message.as_ptr(), l.message.len()),
+            _ => ragbasalt_card_tick(plan, card, bins, sensors, read, place, actuators),
         }
+    }
+}
+
+/// Before a delivery and a tick: the phase in which a delivery is taken, and that which the tick leaves.
+fn enter(index: usize, l: &mut Lent) {
+    if index == TICKS - 1 {
+        l.card[PHASE] = 1;
+    }
+    if index >= TICKS {
+        l.card[PHASE] = (index - TICKS) as u64;
     }
 }
 
 /// The reference takes a plan: its words are read first, as ours are.
 fn reference(index: usize, l: &mut Lent) -> u64 {
+    enter(index, l);
     let plan = if [0, 19, 21].contains(&index) { None } else { calls::plan_of(&l.words) };
     let plan = plan.as_ref();
     match index {
@@ -163,7 +204,12 @@ fn reference(index: usize, l: &mut Lent) -> u64 {
         18 => calls::plan_histories(plan, FRAMES, &mut l.out, &mut l.number),
         19 => calls::listing_start(&l.text, &mut l.words, &mut l.run),
         20 => calls::listing_next(plan, &mut l.run, &l.line, &mut l.out, &mut l.number),
-        _ => calls::listing_refusal(REFUSAL, &mut l.out, &mut l.number),
+        21 => calls::listing_refusal(REFUSAL, &mut l.out, &mut l.number),
+        22 => calls::card_power_on(plan, &mut l.card, &mut l.bins),
+        23 => calls::card_read(plan, &l.card, FLAGS, &mut l.byte),
+        24 => calls::card_write(plan, &mut l.card, MASK, 3),
+        25 => calls::card_deliver(plan, &mut l.card, &mut l.bins, l.words[0] - 1, &l.message),
+        _ => calls::card_tick(plan, &mut l.card, &mut l.bins, &l.sensors, &mut l.place),
     }
 }
 

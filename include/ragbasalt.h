@@ -1,8 +1,8 @@
 /* ragbasalt.h: the voting frame controller of a web press, for C (C11) and C++ (C++17) on x86-64. Version 4.
  *
- * Link with the archive libragbasalt.a. What a caller needs to know is in this file: sections 1 to 10 tell what is
+ * Link with the archive libragbasalt.a. What a caller needs to know is in this file: sections 1 to 11 tell what is
  * computed and in which form, then come limits, structs and calls. (In the repository `./ragbasalt library` builds the
- * archive, and examples/board/board.c is a board that calls it.)
+ * archive, examples/board/board.c is a board that calls it, and examples/card/card.c one that does so through cards.)
  *
  * 1. What this is
  *
@@ -11,8 +11,9 @@
  * the messages say, and puts its setpoints out. The plane, which stands before the drives, hands on one of the n setpoints
  * for each actuator. So a node that a fault left with a wrong memory gets it right again from the others.
  *
- * There are calls on a plan (read, write, test), on one node (what a board calls in each frame), on a system of n nodes
- * under faults (to try out a plan), and on a run, which is a file of frames that is listed line by line.
+ * There are calls on a plan (read, write, test), on one node (what a board calls in each frame), on a card (one node with a
+ * page of registers, which a host drives by interrupts), on a system of n nodes under faults (to try out a plan), and on a
+ * run, which is a file of frames that is listed line by line.
  *
  * 2. A frame, in six steps
  *
@@ -217,17 +218,21 @@
  *   10       a run line that is not of its form, a mask of 2^n or above or a fill above 255    of the run
  *            in it, or any byte after line 100,000 (line 100,001)
  *   11       histories of a plan of more than 5 nodes, or of a length that is not 1 to 4       0
+ *   12       an access outside a card's page, or a write to a byte of it other than 4 and 5    0
  *
  * A text is refused with 1 first, then by its first bad line, and in one line with 2, 3, 4, 5 in this order; last come
- * missing lines (4), then 6. Other calls try 7, 9, 11, 8 and 10 in this order; each call below names those that it can give.
+ * missing lines (4), then 6. Other calls try 7, 9, 11, 12, 8 and 10 in this order; each call below names those that it can
+ * give.
  *
  * Refused, every word and byte behind the pointers stays as it was, but for the one number that a call gives (count, period,
- * agreement), which is then 0. Not refused, a call on a memory, a system or a run writes the words of the plan's n nodes and
- * C cells and the first A of `handed`; all words past them stay. Power-on writes all words, zeros past the plan's.
+ * agreement, a page's byte), which is then 0. Not refused, a call on a memory, a card, a system or a run writes the words of
+ * the plan's n nodes and C cells and the first A of `handed`; all words past them stay. On a card it also writes phase, flags
+ * and mask, a delivery that changes nothing too; which of the bins' bytes it writes is in section 11. Power-on writes all
+ * words and bytes, zeros past the plan's.
  *
- * Any words may stand in a memory, a system or a run: a counter counts by its low 16 bits, and is written with those above
- * them 0; a good count above 65,535 counts as 65,535, which is above every R; `handed` may hold any patterns, and the first A
- * of them are read.
+ * Any words may stand in a memory, a card, a system or a run: a counter counts by its low 16 bits, and is written with those
+ * above them 0; a phase counts modulo 4, flags and mask by bits 0 and 1, and they are written as they count; a good count
+ * above 65,535 counts as 65,535, which is above every R; `handed` may hold any patterns, and the first A of them are read.
  *
  * 10. What a caller must keep to
  *
@@ -244,7 +249,8 @@
  *   setpoints can differ in their last bit or be 0, a plan against the rules can be accepted, and with an exception
  *   unmasked a call can end by a signal. ragbasalt_arithmetic_holds, the last function below, tells.
  * - There is stack. Measured on this archive, a call takes below its caller at most 25,300 bytes on a plan or on one node,
- *   31,300 on a system, 33,600 for ragbasalt_listing_start and 72,000 for ragbasalt_listing_next. Allow for some more.
+ *   31,500 on a card or a system, 33,600 for ragbasalt_listing_start and 72,000 for ragbasalt_listing_next. Allow for some
+ *   more.
  *
  * Everything else is answered: with these kept no content of a buffer, no length, no mask and no number makes a call trap or
  * run for ever.
@@ -255,9 +261,68 @@
  *
  * Time: every call makes the plan of its struct and tests it, R included. Measured, and not proved: ragbasalt_plan_check
  * takes 11,000 to 15,000 instructions on plans with an R of at most some 15, and 101,000 on one with R = 512. A node's call
- * takes up to 5,000 more, a vote of 32 cells without a majority 14,000. ragbasalt_system_frame takes 6,000 to 23,000 more on
+ * takes up to 5,000 more, a vote of 32 cells without a majority 14,000; a card's tick takes the node's call of the phase that
+ * it leaves and some 1,700 more, its other calls 200 at most beside the test of the plan. ragbasalt_system_frame takes 6,000 to 23,000 more on
  * the plans of tests/listings with at most one bad node; with seven nodes and 64 tasks and 32 votes in one frame up to
  * 53,000, and up to 98,000 where four of the seven are bad.
+ *
+ * 11. The card
+ *
+ * A card is one node that a frame timer drives by ticks. Its host reads and writes a page of 16 bytes, and delivers the
+ * messages that the node gets, its own too, into bins. Here a card is two structs that the caller keeps, ragbasalt_card and
+ * ragbasalt_bins, and the timer's ticks and what the host does are calls on them.
+ *
+ *   byte      read                                                     written
+ *   0, 1      the memory's counter as it is now, big-endian            refused with 12
+ *   2         the phase: 0 compute, 1 broadcast, 2 vote, 3 sync        refused with 12
+ *   3         the flags: bit 0 frame timer due, bit 1 bins full,       refused with 12
+ *             bit 2 the interrupt line
+ *   4         the interrupt mask for flag bits 0 and 1                 bits 0 and 1 are kept, the others count for nothing
+ *   5         0                                                        clears flag bits 0 and 1 where it has ones
+ *   6 to 15   0                                                        refused with 12
+ *
+ * The interrupt line is 1 while flag bit 0 and mask bit 0 are, or flag bit 1 and mask bit 1; it is made at each read and kept
+ * nowhere. A flag stays set until a write to byte 5 clears it, or power-on.
+ *
+ * A tick sets flag bit 0, moves the phase on, and does what the phase that it leaves says:
+ *
+ *   0 compute     computes with the tick's sensors; the phase is then 1
+ *   1 broadcast   nothing more; the phase is then 2
+ *   2 vote        votes on the n bins, of which an empty one counts as m zero bytes (section 8); the phase is then 3
+ *   3 sync        writes the setpoints to the tick's place and empties all bins; the phase is then 0
+ *
+ * Every tick is refused with 8 where the sensors or the place have another length, though sensors are read in phase 0 alone
+ * and the place is written in phase 3 alone. A tick does not wait for bins, and gives no agreement.
+ *
+ * The bins are n of 1 + m bytes, one after another: a mark, 1 in a filled bin and any other value in an empty one, and a
+ * message. Bin j is for node j's message, and its mark is bytes[j * (1 + m)]. In phase 1 a delivery with a number below n
+ * writes mark and message, so a bin delivered again has the later bytes. In another phase, or with a number from n up, it is
+ * not refused and changes nothing. Flag bit 1 is set by a delivery to a bin that was empty where no bin is empty any more, and
+ * by nothing else: a full bin delivered again does not set it, and emptying the bins does not clear it. Emptying writes 0 to
+ * the n marks and leaves the messages. What is past the n bins is neither read nor, but at power-on, written.
+ *
+ * A frame on a card: four ticks that are not refused, from phase 0 with all bins empty, are the node's frame of section 2 for
+ * the sensors of the first tick and the last bytes delivered into each bin between the first and the second, an empty bin
+ * counting as m zero bytes; the setpoints come with the fourth, and then it is phase 0 again with all bins empty. What else
+ * was called in between, reads, writes, other deliveries and calls that were refused, makes no difference.
+ *
+ * A host by interrupts writes 3 to byte 4 after power-on. Whenever the line is raised it reads byte 3 and writes what it read
+ * to byte 5, before it does anything else: so a flag that is set meanwhile raises the line again. Then,
+ *
+ *   with bit 0, it reads byte 2:
+ *     1    makes the message of the card's memory (ragbasalt_node_message), sends it to all and delivers it to its own card
+ *     0    puts out the setpoints of the tick that came just now
+ *   with bit 1: every bin has a message; where it did not come before the vote one is missing, and counts as zeros (section 8)
+ *
+ * Messages that come from others it delivers as they come while byte 2 is 1. One that comes before its own card has left
+ * compute it keeps and delivers then, since a delivery in another phase is lost without a refusal; one that comes after
+ * broadcast is too late for this frame. Calls on one card are made one after another: a handler that interrupts one of them
+ * makes none on the same card.
+ *
+ * A fault may leave any words in a card and any bytes in its bins. A phase that is not the other nodes' stays apart from
+ * theirs, as four ticks come back to it. So a host whose node comes back from a fault begins again while the others are in
+ * compute: it powers the card on, or it sets phase, flags and marks to 0 and leaves the memory as it is, for the votes to put
+ * right; then it writes the mask.
  */
 #ifndef RAGBASALT_H
 #define RAGBASALT_H
@@ -300,6 +365,7 @@ RAGBASALT_KEPT static uint64_t (*const ragbasalt_version_of_header)(void) = ragb
 #define RAGBASALT_MAX_TEXT_BYTES 35169u
 #define RAGBASALT_MAX_MESSAGE_BYTES (2u + 8u * RAGBASALT_MAX_CELLS)
 #define RAGBASALT_MAX_MAILBOX_BYTES (RAGBASALT_MAX_NODES * RAGBASALT_MAX_MESSAGE_BYTES)
+#define RAGBASALT_MAX_BINS_BYTES (RAGBASALT_MAX_NODES * (1u + RAGBASALT_MAX_MESSAGE_BYTES))
 #define RAGBASALT_MAX_FAULTS_BYTES (RAGBASALT_MAX_NODES * ((RAGBASALT_MAX_NODES + 1u) * RAGBASALT_MAX_MESSAGE_BYTES + 8u * RAGBASALT_MAX_ACTUATORS))
 
 /* The longest line of a listing; the line of a refusal. */
@@ -311,6 +377,9 @@ RAGBASALT_KEPT static uint64_t (*const ragbasalt_version_of_header)(void) = ragb
 #define RAGBASALT_MAX_HISTORIES_NODES 5u
 #define RAGBASALT_MAX_HISTORIES_FRAMES 4u
 #define RAGBASALT_MAX_HISTORIES_BYTES 29584u
+
+/* The page of a card. */
+#define RAGBASALT_PAGE_BYTES 16u
 
 /* ---- answers (section 9) */
 
@@ -337,7 +406,8 @@ enum ragbasalt_number {
     RAGBASALT_REFUSED_LENGTH = 8,
     RAGBASALT_REFUSED_MASK = 9, /* or a good count */
     RAGBASALT_REFUSED_RUN_LINE = 10,
-    RAGBASALT_REFUSED_HISTORIES = 11
+    RAGBASALT_REFUSED_HISTORIES = 11,
+    RAGBASALT_REFUSED_PAGE = 12
 };
 
 static inline unsigned ragbasalt_number_of(ragbasalt_answer answer)
@@ -351,7 +421,7 @@ static inline uint64_t ragbasalt_line_of(ragbasalt_answer answer)
     return answer >> 8;
 }
 
-/* ---- plans, memories, systems, runs: structs of 64-bit words */
+/* ---- plans, memories, cards, systems, runs: structs of 64-bit words, but for a card's bins */
 
 /* The kinds of a task; what they compute and what source, first and second are is in section 4. */
 enum ragbasalt_kind {
@@ -383,6 +453,42 @@ typedef struct ragbasalt_memory {
     uint64_t cells[RAGBASALT_MAX_CELLS]; /* patterns */
 } ragbasalt_memory;
 
+/* What a card is but for its bins. */
+typedef struct ragbasalt_card {
+    ragbasalt_memory memory;
+    uint64_t phase; /* modulo 4: an enum ragbasalt_phase */
+    uint64_t flags; /* bits 0 and 1; the interrupt line is not kept */
+    uint64_t mask;  /* bits 0 and 1 */
+} ragbasalt_card;
+
+/* The plan's n bins, 1 + ragbasalt_message_size bytes each: a mark, 1 in a filled bin, then a message. */
+typedef struct ragbasalt_bins {
+    uint8_t bytes[RAGBASALT_MAX_BINS_BYTES];
+} ragbasalt_bins;
+
+/* The bytes of a card's page; those that are not here read as 0 (section 11). */
+enum ragbasalt_page {
+    RAGBASALT_PAGE_COUNTER = 0, /* and 1 */
+    RAGBASALT_PAGE_PHASE = 2,
+    RAGBASALT_PAGE_FLAGS = 3,
+    RAGBASALT_PAGE_MASK = 4, /* also written */
+    RAGBASALT_PAGE_CLEAR = 5 /* only written */
+};
+
+enum ragbasalt_phase {
+    RAGBASALT_PHASE_COMPUTE = 0,
+    RAGBASALT_PHASE_BROADCAST = 1,
+    RAGBASALT_PHASE_VOTE = 2,
+    RAGBASALT_PHASE_SYNC = 3
+};
+
+/* Bits of page byte 3; the first two also of bytes 4 and 5. */
+enum ragbasalt_flag {
+    RAGBASALT_FLAG_TIMER = 1, /* frame timer due */
+    RAGBASALT_FLAG_FULL = 2,  /* bins full */
+    RAGBASALT_FLAG_LINE = 4   /* the interrupt line */
+};
+
 typedef struct ragbasalt_system {
     ragbasalt_memory nodes[RAGBASALT_MAX_NODES];
     uint64_t good[RAGBASALT_MAX_NODES];       /* good counts */
@@ -405,6 +511,8 @@ typedef struct ragbasalt_run {
 RAGBASALT_ASSERT(sizeof(ragbasalt_plan) == 8 * 446 && offsetof(ragbasalt_plan, initial) == 8 * 6 && offsetof(ragbasalt_plan, tasks) == 8 * 38);
 RAGBASALT_ASSERT(sizeof(ragbasalt_task) == 8 * 6 && offsetof(ragbasalt_plan, votes) == 8 * 422 && offsetof(ragbasalt_plan, actuator_cells) == 8 * 438);
 RAGBASALT_ASSERT(sizeof(ragbasalt_memory) == 8 * 33 && offsetof(ragbasalt_memory, cells) == 8);
+RAGBASALT_ASSERT(sizeof(ragbasalt_card) == 8 * 36 && offsetof(ragbasalt_card, phase) == 8 * 33 && offsetof(ragbasalt_card, flags) == 8 * 34);
+RAGBASALT_ASSERT(offsetof(ragbasalt_card, mask) == 8 * 35 && sizeof(ragbasalt_bins) == 1813 && RAGBASALT_MAX_BINS_BYTES == 1813);
 RAGBASALT_ASSERT(sizeof(ragbasalt_system) == 8 * 246 && offsetof(ragbasalt_system, good) == 8 * 231 && offsetof(ragbasalt_system, handed) == 8 * 238);
 RAGBASALT_ASSERT(sizeof(ragbasalt_run) == 8 * 281 && offsetof(ragbasalt_run, single) == 8 * 246 && offsetof(ragbasalt_run, period) == 8 * 279);
 #undef RAGBASALT_ASSERT
@@ -460,6 +568,27 @@ RAGBASALT_ANSWER ragbasalt_node_setpoints(const ragbasalt_plan *plan, const ragb
 /* A frame of the single controller: computes on the memory, then writes its setpoints. 7, 8. */
 RAGBASALT_ANSWER ragbasalt_single_frame(const ragbasalt_plan *plan, ragbasalt_memory *memory, const uint64_t *sensors, size_t sensors_length, uint64_t *setpoints,
                                         size_t setpoints_length);
+
+/* ---- a card (section 11). Any card and any bins are taken, whatever a fault left in them. */
+
+/* Writes the card at power-on: memory at power-on, phase, flags and mask 0; and the bins, all bytes 0, so empty. 7. */
+RAGBASALT_ANSWER ragbasalt_card_power_on(const ragbasalt_plan *plan, ragbasalt_card *card, ragbasalt_bins *bins);
+
+/* Gives byte `at` of the page in `value`. 7; 12 for `at` above 15. */
+RAGBASALT_ANSWER ragbasalt_card_read(const ragbasalt_plan *plan, const ragbasalt_card *card, uint64_t at, uint8_t *value);
+
+/* Writes byte `at` of the page: 4, the mask, of which bits 0 and 1 are kept, or 5, whose ones clear flags. 7; 12 for another
+ * `at`. */
+RAGBASALT_ANSWER ragbasalt_card_write(const ragbasalt_plan *plan, ragbasalt_card *card, uint64_t at, uint8_t value);
+
+/* Delivers a message into bin `number`: in phase 1, and where there is this bin; else nothing changes. `message`:
+ * ragbasalt_message_size bytes, also where nothing changes. 7, 8. */
+RAGBASALT_ANSWER ragbasalt_card_deliver(const ragbasalt_plan *plan, ragbasalt_card *card, ragbasalt_bins *bins, uint64_t number, const uint8_t *message, size_t message_length);
+
+/* A tick of the frame timer: computes in phase 0, votes in phase 2, writes `setpoints` and empties the bins in phase 3, and
+ * moves the phase on. `sensors`: S patterns, `setpoints`: A, both in every phase. 7, 8. */
+RAGBASALT_ANSWER ragbasalt_card_tick(const ragbasalt_plan *plan, ragbasalt_card *card, ragbasalt_bins *bins, const uint64_t *sensors, size_t sensors_length, uint64_t *setpoints,
+                                     size_t setpoints_length);
 
 /* ---- the whole system: n nodes and the plane */
 

@@ -2,6 +2,7 @@
 //! buffer that was lent, and the guards around it.
 
 use super::calls::{self, system_of, HANDED_AT, SYSTEM_WORDS};
+use super::cards::CardTotals;
 use super::draw::line_faults;
 use super::lend::{Element, Lent, Number, Slice, GUARD};
 use super::library::*;
@@ -21,11 +22,11 @@ impl Words {
     }
 }
 
-/// The words of a memory, a system or a run.
+/// The words of a memory, a card, a system or a run.
 pub type Record = Vec<u64>;
 
-/// The numbers of answers, 0 to 11.
-pub const NUMBERS: usize = 12;
+/// The numbers of answers, 0 to 12.
+pub const NUMBERS: usize = 13;
 
 /// What was seen.
 #[derive(Clone, Default, PartialEq)]
@@ -51,6 +52,7 @@ pub struct Totals {
     /// Frames of lists past the 40th; lists with R above 60 and with R = 513; nodes that were bad
     /// and work again, with R above 60 and with R = 513.
     pub long: [u64; 5],
+    pub cards: CardTotals,
 }
 
 /// The report of a difference.
@@ -64,18 +66,20 @@ pub struct Both<'a> {
 }
 
 // The parameters of a call, by kind: `plan` is a plan's words; `given` and `record` are the words of
-// a memory, a system or a run, to be read or to be changed, `record` also those for a new plan;
-// `slice` and `place` are buffers with a length, to be read or to be written; `number` goes by
-// value; `gives` is a number that the call gives.
+// a memory, a card, a system or a run, to be read or to be changed, `record` also those for a new
+// plan and the bytes of bins; `slice` and `place` are buffers with a length, to be read or to be
+// written; `number` goes by value; `gives` is a number that the call gives.
 
 macro_rules! parameter {
     (plan) => { &Words };
     (given) => { &[u64] };
     (record) => { &mut Record };
+    (record $element:ty) => { &mut Vec<$element> };
     (slice $element:ty) => { &[$element] };
     (place $element:ty) => { &mut Vec<$element> };
     (number $type:ty) => { $type };
     (gives) => { &mut usize };
+    (gives $type:ty) => { &mut $type };
 }
 
 /// What the library is lent, and the parameter itself.
@@ -188,6 +192,15 @@ calls! {
         (plan plan, given memory, place setpoints: u64);
     single_frame ragbasalt_single_frame [0, 7, 8]
         (plan plan, record memory, slice sensors: u64, place setpoints: u64);
+    card_power_on ragbasalt_card_power_on [0, 7] (plan plan, record card, record bins: u8);
+    card_read ragbasalt_card_read [0, 7, 12]
+        (plan plan, given card, number at: u64, gives value: u8);
+    card_write ragbasalt_card_write [0, 7, 12]
+        (plan plan, record card, number at: u64, number value: u8);
+    card_deliver ragbasalt_card_deliver [0, 7, 8]
+        (plan plan, record card, record bins: u8, number bin: u64, slice message: u8);
+    card_tick ragbasalt_card_tick [0, 7, 8]
+        (plan plan, record card, record bins: u8, slice sensors: u64, place setpoints: u64);
     system_power_on ragbasalt_system_power_on [0, 7] (plan plan, record system);
     system_frame ragbasalt_system_frame [0, 7, 8, 9]
         (plan plan, record system, slice sensors: u64, number mask: u64, slice faults: u8,

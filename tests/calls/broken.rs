@@ -1,8 +1,9 @@
 //! The test of the test: references with one error each, which the comparison has to see.
 //!
 //! Each file `broken/*.edit` is a comment, a file below the folder of the tests, and texts of it
-//! with what they become (`\n` is a line feed). A copy with the edit made is built and run. Each
-//! worker has one copy for all its edits, so that rustc builds anew only what an edit changes.
+//! with what they become (`\n` is a line feed); `mode: --cards` where lists of calls on a card have
+//! to show it. A copy with the edit made is built and run. Each worker has one copy for all its
+//! edits, so that rustc builds anew only what an edit changes.
 
 use std::fs;
 use std::io;
@@ -59,12 +60,12 @@ impl Worker<'_> {
             text = text.replace(&old, &new);
         }
         fs::write(self.folder.join(&file), text)?;
-        let seen = self.run();
+        let seen = self.run(edit.lines().find_map(|line| value(line, "mode: ")));
         fs::write(self.folder.join(&file), right)?;
         seen
     }
 
-    fn run(&self) -> io::Result<Option<String>> {
+    fn run(&self, mode: Option<String>) -> io::Result<Option<String>> {
         let program = self.folder.join("program");
         let incremental = format!("incremental={}", self.folder.join("built").display());
         let build = Command::new("rustc")
@@ -75,7 +76,7 @@ impl Worker<'_> {
         if !build.success() {
             return Err(io::Error::other("it does not build"));
         }
-        let output = Command::new(&program).arg(CALLS).output()?;
+        let output = Command::new(&program).args(mode).arg(CALLS).output()?;
         let printed = String::from_utf8_lossy(&output.stdout).into_owned();
         let first = printed.lines().next().unwrap_or_default();
         let seen = output.status.code() == Some(1) && first.ends_with(": a difference");

@@ -1,9 +1,10 @@
-//! Arguments of calls: plans as words and damages to them, memories, systems, runs, run lines,
-//! mailboxes, masks and fault bytes, with or without something wrong.
+//! Arguments of calls: plans as words and damages to them, memories, cards and bins, systems, runs,
+//! run lines, mailboxes, masks and fault bytes, with or without something wrong.
 
 use super::both::{Record, Words};
-use super::calls::{self, listing_line_length, memory_of, system_of};
+use super::calls::{self, bin_length, listing_line_length, memory_of, system_of};
 use super::calls::{ACTUATORS, GOOD_AT, HANDED_AT, MEMORY_WORDS, NODES};
+use super::calls::{BINS_BYTES, PHASE_AT};
 use super::calls::{CELLS, COUNTS, FRAMES, OUTPUTS_AT, PLAN_WORDS, TASKS_AT, VOTES_AT};
 use super::damage;
 use super::frame::{self, fault_length, message_length};
@@ -142,6 +143,38 @@ pub fn stray(r: &Random, plan: &Plan, system: &mut [u64]) {
     }
 }
 
+/// A word that is `low` in its low two bits, which alone count in a card's phase, flags and mask.
+fn above_2_bits(r: &Random, low: u64) -> u64 {
+    let far = [low | 1 << 32, low | MINUS, low | u64::MAX << 2, low | r.next() << 2];
+    r.pick(&[low + 4, low + 4 * r.below(64) as u64, r.pick(&far)])
+}
+
+/// The same for a card: bits above those that count, cells past the plan's, what stands in bins
+/// that are empty, and bytes past the bins.
+pub fn stray_card(r: &Random, plan: &Plan, card: &mut [u64], bins: &mut [u8]) {
+    let word = PHASE_AT + r.below(3);
+    card[word] = above_2_bits(r, card[word] % 4);
+    card[0] = above_16_bits(r, card[0] % 65_536);
+    let cell = r.below(CELLS);
+    if cell >= plan.cells {
+        card[1 + cell] = r.next();
+    }
+    let (used, past) = bins.split_at_mut(plan.nodes * bin_length(plan));
+    let bin = used.chunks_exact_mut(bin_length(plan)).nth(r.below(plan.nodes));
+    if let Some(bin) = bin.filter(|bin| bin[0] != 1) {
+        bin.iter_mut().for_each(|byte| *byte = r.next() as u8);
+        bin[0] = empty_mark(r);
+    }
+    if !past.is_empty() {
+        past[r.below(past.len())] = r.next() as u8;
+    }
+}
+
+/// Any mark but 1.
+fn empty_mark(r: &Random) -> u8 {
+    r.pick(&[0, 0, 2, 255, r.between(2, 255) as u8])
+}
+
 /// The mask and the fault bytes of a whole run line.
 pub fn line_faults(plan: &Plan, line: &[u8]) -> (u64, Vec<u8>) {
     let column = |bytes: &[u8]| number(bytes).expect("a whole run line");
@@ -166,7 +199,7 @@ impl Draw<'_> {
         self.wrong > 0 && self.r.one_in(self.wrong)
     }
 
-    fn length(&self, right: usize) -> usize {
+    pub fn length(&self, right: usize) -> usize {
         if self.is_wrong() {
             wrong_length(self.r, right)
         } else {
@@ -206,6 +239,81 @@ impl Draw<'_> {
         let mut words = vec![self.counter_word()];
         words.extend(self.patterns(CELLS));
         words
+    }
+
+    /// Words of a card in any phase, with any bits in them.
+    pub fn card(&self) -> Record {
+        let r = self.r;
+        let mut words = self.memory();
+        words.extend((0..3).map(|_| {
+            let low = r.below(4) as u64;
+            r.pick(&[low, low, above_2_bits(r, low)])
+        }));
+        words
+    }
+
+    /// Any bytes as bins, of which none, all, all but one or any are filled.
+    pub fn bins(&self) -> Vec<u8> {
+        let (r, nodes) = (self.r, self.plan.nodes);
+        let mut bytes: Vec<_> = (0..BINS_BYTES).map(|_| r.next() as u8).collect();
+        let (way, one) = (r.below(4), r.below(nodes));
+        let marks = bytes.iter_mut().step_by(bin_length(self.plan)).take(nodes);
+        for (bin, mark) in marks.enumerate() {
+            let filled = match way {
+                0 => false,
+                1 => true,
+                2 => bin != one,
+                _ => r.one_in(2),
+            };
+            *mark = if filled { 1 } else { empty_mark(r) };
+        }
+        bytes
+    }
+
+    /// A card in compute with all bins empty, and its bins.
+    pub fn in_compute(&self) -> (Record, Vec<u8>) {
+        let (mut card, mut bins) = (self.card(), self.bins());
+        card[PHASE_AT] -= card[PHASE_AT] % 4;
+        let marks = bins.iter_mut().step_by(bin_length(self.plan)).take(self.plan.nodes);
+        marks.filter(|mark| **mark == 1).for_each(|mark| *mark = empty_mark(self.r));
+        (card, bins)
+    }
+
+    /// An address: of the page, the bytes that have something in them more often, or outside it,
+    /// also one that is right in its low bits only.
+    pub fn at(&self) -> u64 {
+        let r = self.r;
+        let page = r.below(16) as u64;
+        match r.below(8) {
+            0 => r.pick(&[16, 17, other_number(r, page), other_number(r, r.between(3, 5) as u64)]),
+            1..=3 => page,
+            _ => r.between(2, 5) as u64,
+        }
+    }
+
+    /// What is written to the page.
+    pub fn byte(&self) -> u8 {
+        self.r.pick(&[0, 1, 2, 3, 3, 4, 255, self.r.next() as u8])
+    }
+
+    /// The number of a bin: of the plan's, or from n up, also one that is right in its low bits
+    /// only.
+    pub fn bin(&self) -> u64 {
+        let (r, nodes) = (self.r, self.plan.nodes);
+        let bin = r.below(nodes) as u64;
+        match r.below(4) {
+            0 => r.pick(&[nodes as u64, other_number(r, bin), other_number(r, nodes as u64)]),
+            _ => bin,
+        }
+    }
+
+    /// A message in place of one of a mailbox: another bin's, changed or not.
+    pub fn other_message(&self, mailbox: &[u8]) -> Vec<u8> {
+        let length = message_length(self.plan);
+        let at = self.r.below(self.plan.nodes) * length;
+        let mut message = mailbox[at..at + length].to_vec();
+        self.spoil(&mut message);
+        message
     }
 
     pub fn sensors(&self) -> Vec<u64> {
@@ -401,7 +509,7 @@ impl Draw<'_> {
     /// An answer for a refusal's line: any number and any line.
     pub fn answer(&self) -> u64 {
         let r = self.r;
-        let number = r.pick(&[r.below(13), r.below(13), r.below(13), 255, r.below(256)]) as u64;
+        let number = r.pick(&[r.below(14), r.below(14), r.below(14), 255, r.below(256)]) as u64;
         let lines = [0, 1, r.between(1, 618) as u64, 100_001, 99_999_999, 100_000_000];
         let line = r.pick(&[r.pick(&lines), r.pick(&lines), r.next() >> 8]);
         number + 256 * line
@@ -572,7 +680,7 @@ fn put_fields(message: &mut [u8], counter: u16, cells: impl Iterator<Item = u64>
     }
 }
 
-fn shuffled(r: &Random, count: usize) -> Vec<usize> {
+pub fn shuffled(r: &Random, count: usize) -> Vec<usize> {
     let mut order: Vec<_> = (0..count).collect();
     (1..count).for_each(|at| order.swap(at, r.below(at + 1)));
     order

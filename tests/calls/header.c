@@ -1,5 +1,5 @@
 /* Every struct and function of include/ragbasalt.h, as C11 and as C++17: prints the whole listing of plan.txt and run.txt in the current folder, by the calls on the system and, beside them, by
- * those on one node and by those on a run. Exit status 1 where something is not as it has to be; the numbers and lines of refusals are tested too. */
+ * those on one node, on a card and on a run. Exit status 1 where something is not as it has to be; the numbers and lines of refusals are tested too. */
 #include <inttypes.h>
 #include <stdio.h>
 #include <stdlib.h>
@@ -181,6 +181,174 @@ static void node(const ragbasalt_plan *plan, const ragbasalt_memory *before, con
     HOLD(memcmp(&memory, after, sizeof memory) == 0);
 }
 
+/* The page of a card, byte by byte; what is past it is refused, also where the low bits are a byte's. */
+static void page(const ragbasalt_plan *plan, const ragbasalt_card *card, unsigned phase, unsigned flags, unsigned mask)
+{
+    static ragbasalt_plan zero;
+    unsigned bytes[RAGBASALT_PAGE_BYTES] = {0};
+    uint8_t value;
+    uint64_t at;
+    bytes[RAGBASALT_PAGE_COUNTER] = (unsigned)(card->memory.counter >> 8 & 255);
+    bytes[RAGBASALT_PAGE_COUNTER + 1] = (unsigned)(card->memory.counter & 255);
+    bytes[RAGBASALT_PAGE_PHASE] = phase;
+    bytes[RAGBASALT_PAGE_FLAGS] = flags;
+    bytes[RAGBASALT_PAGE_MASK] = mask;
+    for (at = 0; at < RAGBASALT_PAGE_BYTES; at++) {
+        value = 99;
+        HOLD(ragbasalt_card_read(plan, card, at, &value) == RAGBASALT_DONE && value == bytes[at]);
+        value = 99;
+        HOLD(ragbasalt_card_read(plan, card, at + 16, &value) == RAGBASALT_REFUSED_PAGE && value == 0);
+        value = 99;
+        HOLD(ragbasalt_card_read(plan, card, (UINT64_C(1) << 32) + at, &value) == RAGBASALT_REFUSED_PAGE && value == 0);
+    }
+    value = 99;
+    HOLD(ragbasalt_card_read(&zero, card, 16, &value) == RAGBASALT_REFUSED_PLAN && value == 0);
+}
+
+/* Calls on a card that are refused, in any phase: "No refusal changes the card." */
+static void refused(const ragbasalt_plan *plan, ragbasalt_card *card, ragbasalt_bins *bins)
+{
+    static const uint64_t sensors[RAGBASALT_MAX_SENSORS + 1] = {0};
+    static const uint8_t message[RAGBASALT_MAX_MESSAGE_BYTES + 1] = {0};
+    static ragbasalt_plan zero;
+    ragbasalt_card card_before = *card;
+    ragbasalt_bins bins_before = *bins;
+    uint64_t place[RAGBASALT_MAX_ACTUATORS + 1], at;
+    size_t bytes = ragbasalt_message_size(plan), s = (size_t)plan->sensors, a = (size_t)plan->actuators, i;
+    for (i = 0; i <= RAGBASALT_MAX_ACTUATORS; i++)
+        place[i] = 99 + i;
+    for (at = 0; at < 2 * RAGBASALT_PAGE_BYTES; at++)
+        HOLD(at == RAGBASALT_PAGE_MASK || at == RAGBASALT_PAGE_CLEAR || ragbasalt_card_write(plan, card, at, 1) == RAGBASALT_REFUSED_PAGE);
+    HOLD(ragbasalt_card_write(plan, card, (UINT64_C(1) << 32) + RAGBASALT_PAGE_MASK, 1) == RAGBASALT_REFUSED_PAGE);
+    HOLD(ragbasalt_card_write(&zero, card, 16, 1) == RAGBASALT_REFUSED_PLAN && ragbasalt_card_write(&zero, card, RAGBASALT_PAGE_MASK, 1) == RAGBASALT_REFUSED_PLAN);
+    HOLD(ragbasalt_card_deliver(plan, card, bins, 0, message, bytes - 1) == RAGBASALT_REFUSED_LENGTH);
+    HOLD(ragbasalt_card_deliver(plan, card, bins, UINT64_MAX, message, bytes + 1) == RAGBASALT_REFUSED_LENGTH);
+    HOLD(ragbasalt_card_deliver(&zero, card, bins, 0, message, 0) == RAGBASALT_REFUSED_PLAN);
+    HOLD(ragbasalt_card_tick(plan, card, bins, sensors, s + 1, place, a) == RAGBASALT_REFUSED_LENGTH);
+    HOLD(ragbasalt_card_tick(plan, card, bins, sensors, s, place, a + 1) == RAGBASALT_REFUSED_LENGTH);
+    HOLD(ragbasalt_card_tick(&zero, card, bins, sensors, 0, place, 0) == RAGBASALT_REFUSED_PLAN);
+    HOLD(ragbasalt_card_power_on(&zero, card, bins) == RAGBASALT_REFUSED_PLAN);
+    HOLD(memcmp(card, &card_before, sizeof card_before) == 0 && memcmp(bins, &bins_before, sizeof bins_before) == 0);
+    for (i = 0; i <= RAGBASALT_MAX_ACTUATORS; i++)
+        HOLD(place[i] == 99 + i);
+}
+
+/* A card through one frame, each flag, mask and bin by itself. */
+static void cards(const ragbasalt_plan *plan)
+{
+    static const uint64_t sensors[RAGBASALT_MAX_SENSORS] = {0};
+    static ragbasalt_card card, power_on, other;
+    static ragbasalt_bins bins, none, filled;
+    uint8_t message[RAGBASALT_MAX_MESSAGE_BYTES];
+    uint64_t place[RAGBASALT_MAX_ACTUATORS];
+    size_t bytes = ragbasalt_message_size(plan), n = (size_t)plan->nodes, s = (size_t)plan->sensors, a = (size_t)plan->actuators, i;
+    memset(&card, 255, sizeof card);
+    memset(&bins, 255, sizeof bins);
+    page(plan, &card, RAGBASALT_PHASE_SYNC, 7, 3);
+    refused(plan, &card, &bins);
+    HOLD(ragbasalt_node_power_on(plan, &power_on.memory) == RAGBASALT_DONE && ragbasalt_card_power_on(plan, &card, &bins) == RAGBASALT_DONE);
+    HOLD(memcmp(&card, &power_on, sizeof card) == 0 && memcmp(&bins, &none, sizeof bins) == 0);
+    page(plan, &card, RAGBASALT_PHASE_COMPUTE, 0, 0);
+    memset(message, 1, sizeof message);
+    memset(place, 1, sizeof place);
+    other = card;
+
+    /* Outside phase 1 a delivery gives the card back as it counts, and changes nothing else. */
+    card.memory.counter += 65536;
+    card.phase = UINT64_MAX - 3;
+    card.flags = card.mask = UINT64_MAX - 3;
+    refused(plan, &card, &bins);
+    HOLD(ragbasalt_card_deliver(plan, &card, &bins, 0, message, bytes) == RAGBASALT_DONE);
+    HOLD(memcmp(&card, &other, sizeof card) == 0 && memcmp(&bins, &none, sizeof bins) == 0);
+
+    HOLD(ragbasalt_card_write(plan, &card, RAGBASALT_PAGE_MASK, 255) == RAGBASALT_DONE && card.mask == 3);
+    page(plan, &card, RAGBASALT_PHASE_COMPUTE, 0, 3);
+    HOLD(ragbasalt_card_tick(plan, &card, &bins, sensors, s, place, a) == RAGBASALT_DONE);
+    HOLD(ragbasalt_node_compute(plan, &other.memory, sensors, s) == RAGBASALT_DONE && memcmp(&card.memory, &other.memory, sizeof other.memory) == 0);
+    page(plan, &card, RAGBASALT_PHASE_BROADCAST, RAGBASALT_FLAG_TIMER | RAGBASALT_FLAG_LINE, 3);
+    refused(plan, &card, &bins);
+    HOLD(ragbasalt_card_write(plan, &card, RAGBASALT_PAGE_MASK, RAGBASALT_FLAG_FULL) == RAGBASALT_DONE);
+    page(plan, &card, RAGBASALT_PHASE_BROADCAST, RAGBASALT_FLAG_TIMER, RAGBASALT_FLAG_FULL);
+    HOLD(ragbasalt_card_write(plan, &card, RAGBASALT_PAGE_CLEAR, 254) == RAGBASALT_DONE && card.flags == RAGBASALT_FLAG_TIMER);
+    HOLD(ragbasalt_card_write(plan, &card, RAGBASALT_PAGE_CLEAR, RAGBASALT_FLAG_TIMER) == RAGBASALT_DONE && card.flags == 0);
+
+    /* Bins that were left in a fault's hands are empty unless their mark is 1. From n up there is none. Bit 1 comes with the last empty bin. */
+    memset(&bins, 2, sizeof bins);
+    filled = bins;
+    HOLD(ragbasalt_card_deliver(plan, &card, &bins, n, message, bytes) == RAGBASALT_DONE && ragbasalt_card_deliver(plan, &card, &bins, UINT64_C(1) << 32, message, bytes) == RAGBASALT_DONE);
+    HOLD(memcmp(&bins, &filled, sizeof bins) == 0);
+    for (i = n; i-- > 0;) {
+        page(plan, &card, RAGBASALT_PHASE_BROADCAST, 0, RAGBASALT_FLAG_FULL);
+        memset(message, (int)i + 3, sizeof message);
+        HOLD(ragbasalt_card_deliver(plan, &card, &bins, i, message, bytes) == RAGBASALT_DONE);
+        filled.bytes[i * (1 + bytes)] = 1;
+        memset(filled.bytes + i * (1 + bytes) + 1, (int)i + 3, bytes);
+        HOLD(memcmp(&bins, &filled, sizeof bins) == 0);
+        if (i > 0)
+            HOLD(ragbasalt_card_deliver(plan, &card, &bins, i, message, bytes) == RAGBASALT_DONE);
+    }
+    page(plan, &card, RAGBASALT_PHASE_BROADCAST, RAGBASALT_FLAG_FULL | RAGBASALT_FLAG_LINE, RAGBASALT_FLAG_FULL);
+
+    /* A full bin delivered again is replaced, and does not set bit 1 again. */
+    HOLD(ragbasalt_card_write(plan, &card, RAGBASALT_PAGE_CLEAR, 255) == RAGBASALT_DONE && card.flags == 0);
+    HOLD(ragbasalt_node_message(plan, &card.memory, message, bytes) == RAGBASALT_DONE);
+    for (i = 0; i < n; i++) {
+        HOLD(ragbasalt_card_deliver(plan, &card, &bins, i, message, bytes) == RAGBASALT_DONE && card.flags == 0);
+        memcpy(filled.bytes + i * (1 + bytes) + 1, message, bytes);
+    }
+    HOLD(memcmp(&bins, &filled, sizeof bins) == 0);
+
+    /* All n bins are the card's own message: the vote changes nothing. The place is written by the fourth tick alone, which empties the bins and leaves the flags. */
+    HOLD(ragbasalt_card_tick(plan, &card, &bins, sensors, s, place, a) == RAGBASALT_DONE && card.phase == RAGBASALT_PHASE_VOTE);
+    memset(message, 0, sizeof message);
+    HOLD(ragbasalt_card_deliver(plan, &card, &bins, 0, message, bytes) == RAGBASALT_DONE);
+    HOLD(ragbasalt_card_tick(plan, &card, &bins, sensors, s, place, a) == RAGBASALT_DONE && card.phase == RAGBASALT_PHASE_SYNC);
+    HOLD(memcmp(&bins, &filled, sizeof bins) == 0 && memcmp(&card.memory, &other.memory, sizeof other.memory) == 0);
+    for (i = 0; i < RAGBASALT_MAX_ACTUATORS; i++)
+        HOLD(place[i] == UINT64_C(0x0101010101010101));
+    card.flags = RAGBASALT_FLAG_FULL;
+    HOLD(ragbasalt_card_tick(plan, &card, &bins, sensors, s, place, a) == RAGBASALT_DONE);
+    page(plan, &card, RAGBASALT_PHASE_COMPUTE, 7, RAGBASALT_FLAG_FULL);
+    for (i = 0; i < n; i++)
+        filled.bytes[i * (1 + bytes)] = 0;
+    HOLD(memcmp(&bins, &filled, sizeof bins) == 0);
+    for (i = 0; i < RAGBASALT_MAX_ACTUATORS; i++)
+        HOLD(place[i] == (i < a ? other.memory.cells[plan->actuator_cells[i]] : UINT64_C(0x0101010101010101)));
+}
+
+/* The next frame of node 0 on a card, all nodes being as it is. A copy of the card gets the messages of nodes 0 to `heard` - 1 alone, and votes on zero bytes for the others. */
+static void card_frame(const ragbasalt_plan *plan, ragbasalt_card *card, ragbasalt_bins *bins, const ragbasalt_memory *after, const uint64_t *sensors, const uint64_t *expected, size_t heard)
+{
+    uint8_t message[RAGBASALT_MAX_MESSAGE_BYTES], mailbox[RAGBASALT_MAX_MAILBOX_BYTES] = {0};
+    uint64_t place[RAGBASALT_MAX_ACTUATORS];
+    ragbasalt_card copy = *card;
+    ragbasalt_bins few = *bins;
+    ragbasalt_memory memory;
+    size_t bytes = ragbasalt_message_size(plan), n = (size_t)plan->nodes, s = (size_t)plan->sensors, a = (size_t)plan->actuators, i, agreement;
+    HOLD(ragbasalt_card_tick(plan, card, bins, sensors, s, place, a) == RAGBASALT_DONE);
+    HOLD(ragbasalt_node_message(plan, &card->memory, message, bytes) == RAGBASALT_DONE);
+    for (i = 0; i < n; i++) {
+        if (i == heard) {
+            copy = *card;
+            few = *bins;
+        }
+        if (i >= heard)
+            few.bytes[i * (1 + bytes)] = 255; /* no mark of a filled bin */
+        else
+            memcpy(mailbox + i * bytes, message, bytes);
+        HOLD(ragbasalt_card_deliver(plan, card, bins, i, message, bytes) == RAGBASALT_DONE && ((card->flags & RAGBASALT_FLAG_FULL) != 0) == (i + 1 == n));
+    }
+    memory = copy.memory;
+    HOLD(ragbasalt_node_vote(plan, &memory, mailbox, n * bytes, &agreement) == RAGBASALT_DONE);
+    for (i = 0; i < 2; i++)
+        HOLD(ragbasalt_card_tick(plan, &copy, &few, sensors, s, place, a) == RAGBASALT_DONE && (copy.flags & RAGBASALT_FLAG_FULL) == 0);
+    HOLD(memcmp(&copy.memory, &memory, sizeof memory) == 0);
+    for (i = 0; i < 3; i++)
+        HOLD(ragbasalt_card_tick(plan, card, bins, sensors, s, place, a) == RAGBASALT_DONE);
+    HOLD(memcmp(&card->memory, after, sizeof *after) == 0 && memcmp(place, expected, 8 * a) == 0 && card->phase == RAGBASALT_PHASE_COMPUTE);
+    HOLD(ragbasalt_card_write(plan, card, RAGBASALT_PAGE_CLEAR, RAGBASALT_FLAG_TIMER | RAGBASALT_FLAG_FULL) == RAGBASALT_DONE && card->flags == 0);
+}
+
 /* What the plane hands on of n setpoints: "Of tied values the remembered one wins; if it isn't among them, the old rule decides". */
 static uint64_t plane(const uint64_t *put, size_t n, uint64_t remembered)
 {
@@ -256,7 +424,7 @@ static void refusals(void)
         unsigned number;
         uint64_t line;
         const char *text;
-    } lines[] = {{RAGBASALT_REFUSED_TEXT_LENGTH, 0, "   1       0\n"}, {RAGBASALT_REFUSED_RANGE, 617, "   5     617\n"}, {RAGBASALT_REFUSED_RUN_LINE, 100001, "  10  100001\n"}, {RAGBASALT_REFUSED_HISTORIES, 0, "  11       0\n"}};
+    } lines[] = {{RAGBASALT_REFUSED_TEXT_LENGTH, 0, "   1       0\n"}, {RAGBASALT_REFUSED_RANGE, 617, "   5     617\n"}, {RAGBASALT_REFUSED_RUN_LINE, 100001, "  10  100001\n"}, {RAGBASALT_REFUSED_HISTORIES, 0, "  11       0\n"}, {RAGBASALT_REFUSED_PAGE, 0, "  12       0\n"}};
     uint8_t line[RAGBASALT_REFUSAL_LINE_BYTES + 1];
     size_t i, count;
     for (i = 0; i < sizeof lines / sizeof lines[0]; i++) {
@@ -276,6 +444,8 @@ int main(void)
     static ragbasalt_plan plan, zero, listed;
     static ragbasalt_system system, before_frame;
     static ragbasalt_run run;
+    static ragbasalt_card on_card;
+    static ragbasalt_bins bins;
     static uint8_t text[RAGBASALT_MAX_TEXT_BYTES + 1], lines[1 << 20], faults[RAGBASALT_MAX_FAULTS_BYTES];
     ragbasalt_memory single, before;
     uint64_t sensors[RAGBASALT_MAX_SENSORS + 1] = {0}, setpoints[RAGBASALT_MAX_ACTUATORS], expected[RAGBASALT_MAX_ACTUATORS], mask, fill;
@@ -292,6 +462,7 @@ int main(void)
     unrecoverable();
     histories(&plan);
     refusals();
+    cards(&plan);
     s = (size_t)plan.sensors;
     a = (size_t)plan.actuators;
     one = 9 + 20 * s;
@@ -300,6 +471,7 @@ int main(void)
     memset(&run, 255, sizeof run);
     HOLD(ragbasalt_node_power_on(&plan, &single) == RAGBASALT_DONE && ragbasalt_system_power_on(&plan, &system) == RAGBASALT_DONE);
     HOLD(single.counter == 0 && memcmp(single.cells, plan.initial, sizeof single.cells) == 0);
+    HOLD(ragbasalt_card_power_on(&plan, &on_card, &bins) == RAGBASALT_DONE && memcmp(&on_card.memory, &single, sizeof single) == 0);
     HOLD(ragbasalt_plan_period(&plan, &period) == RAGBASALT_DONE);
     for (i = 0; i < RAGBASALT_MAX_NODES; i++)
         HOLD(system.good[i] == (i < plan.nodes ? period : 0) && memcmp(&system.nodes[i], i < plan.nodes ? (const void *)&single : (const void *)&zero, sizeof single) == 0);
@@ -335,6 +507,7 @@ int main(void)
         HOLD(ragbasalt_single_frame(&plan, &single, sensors, s, expected, a) == RAGBASALT_DONE);
         HOLD(ragbasalt_system_equal(&plan, &system, &single, &equal) == RAGBASALT_DONE);
         node(&plan, &before, &single, sensors, expected);
+        card_frame(&plan, &on_card, &bins, &single, sensors, expected, at / one % (size_t)plan.nodes);
         end = line + snprintf(line, sizeof line, "%8zu%4zu%4zu", at / one, working, equal);
         for (i = 0; i < a; i++)
             end += snprintf(end, 21, "%20" PRIu64, setpoints[i]);

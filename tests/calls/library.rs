@@ -1,5 +1,5 @@
 //! The functions of libragbasalt.a, as include/ragbasalt.h declares them: a plan is 446 words, a
-//! memory 33, a system 246, a run 281.
+//! memory 33, a card 36, a system 246, a run 281; bins are 1,813 bytes.
 
 // The archive is looked for where the program is linked, not before.
 #[link(name = "ragbasalt", kind = "static", modifiers = "-bundle")]
@@ -54,6 +54,26 @@ extern "C" {
     pub fn ragbasalt_single_frame(
         plan: *const u64,
         memory: *mut u64,
+        sensors: *const u64,
+        sensors_length: usize,
+        setpoints: *mut u64,
+        setpoints_length: usize,
+    ) -> u64;
+    pub fn ragbasalt_card_power_on(plan: *const u64, card: *mut u64, bins: *mut u8) -> u64;
+    pub fn ragbasalt_card_read(plan: *const u64, card: *const u64, at: u64, value: *mut u8) -> u64;
+    pub fn ragbasalt_card_write(plan: *const u64, card: *mut u64, at: u64, value: u8) -> u64;
+    pub fn ragbasalt_card_deliver(
+        plan: *const u64,
+        card: *mut u64,
+        bins: *mut u8,
+        number: u64,
+        message: *const u8,
+        message_length: usize,
+    ) -> u64;
+    pub fn ragbasalt_card_tick(
+        plan: *const u64,
+        card: *mut u64,
+        bins: *mut u8,
         sensors: *const u64,
         sensors_length: usize,
         setpoints: *mut u64,

@@ -4,6 +4,9 @@ mod both;
 mod broken;
 #[path = "../reference/calls.rs"]
 mod calls;
+#[path = "../reference/card.rs"]
+mod card;
+mod cards;
 mod classes;
 #[allow(dead_code)]
 #[path = "../reference/damage.rs"]
@@ -33,16 +36,20 @@ use std::sync::atomic::{AtomicU64, Ordering};
 use std::sync::Barrier;
 
 use both::{Both, Compared, Totals, CALLS, NUMBERS};
+use cards::{card_case, card_class_of};
 use classes::{case, class_of, long_case, long_class_of};
 use random::Random;
 
 const USAGE: &str = "usage:
   calls COUNT [FIRST_SEED]          compare cases until at least COUNT calls were made
-  calls --bare COUNT [FIRST_SEED]   the same with buffers that have no guards, for valgrind
   calls --seed SEED                 compare one case
+  calls --cards COUNT [FIRST_SEED]  the same with lists of calls on a card
+  calls --cards-seed SEED           compare one of them
+  calls --bare [--cards] COUNT [FIRST_SEED]
+                                    either with buffers that have no guards, for valgrind
   calls --long COUNT [FIRST_SEED]   compare COUNT long lists of frames
   calls --long-seed SEED            compare one of them
-  calls --threads COUNT             compare the same cases in two threads at once, COUNT calls each
+  calls --threads COUNT             compare both in two threads at once, COUNT calls each
   calls --broken TESTS LIBRARY WORK build broken references, copied from the folder TESTS to WORK,
                                     with libragbasalt.a in the folder LIBRARY, and compare";
 
@@ -63,6 +70,7 @@ struct Kind {
 }
 
 const USUAL: Kind = Kind { case, class_of };
+const CARDS: Kind = Kind { case: card_case, class_of: card_class_of };
 const LONG: Kind = Kind { case: long_case, class_of: long_class_of };
 
 /// Names the case if it ends by a panic.
@@ -91,11 +99,17 @@ fn compare(kind: Kind, seed: u64, totals: &mut Totals, bare: bool) -> Result<(),
 
 /// Every WORKERS-th seed from `first` on, until `count` calls were made; no seed above `least`, the
 /// least one at which a worker saw a difference.
-fn work(first: u64, count: u64, bare: bool, least: &AtomicU64) -> Result<Totals, Difference> {
+fn work(
+    kind: Kind,
+    first: u64,
+    count: u64,
+    bare: bool,
+    least: &AtomicU64,
+) -> Result<Totals, Difference> {
     let mut totals = Totals::default();
     let mut seed = first;
     while totals.calls < count && seed < least.load(Ordering::Relaxed) {
-        if let Err(difference) = compare(USUAL, seed, &mut totals, bare) {
+        if let Err(difference) = compare(kind, seed, &mut totals, bare) {
             least.fetch_min(seed, Ordering::Relaxed);
             return Err(difference);
         }
@@ -122,35 +136,57 @@ fn sum(all: &mut Totals, part: &Totals) {
     for (all, part) in all.answers.iter_mut().flatten().zip(part.answers.iter().flatten()) {
         *all += part;
     }
+    all.cards.sum(&part.cards);
 }
 
-/// Prints how often each call gave each answer; false if one of its answers never came up, or
-/// memory decided too few setpoints.
+/// Prints how often each call, on cards or not, gave each answer; false if one of its answers never
+/// came up.
+fn print_answers(totals: &Totals, on_cards: bool) -> bool {
+    let mut complete = true;
+    let of_kind = |name: &str| name.starts_with("card_") == on_cards;
+    let calls = CALLS.iter().zip(&totals.answers).filter(|((name, _), _)| of_kind(name));
+    let calls: Vec<_> = calls.collect();
+    let given = |&number: &usize| {
+        calls.iter().any(|((_, can), seen)| can.contains(&number) || seen[number] > 0)
+    };
+    let numbers: Vec<_> = (0..NUMBERS).filter(given).collect();
+    print!("{:<16}{:>8}", "call", "calls");
+    numbers.iter().for_each(|number| print!("{number:>8}"));
+    println!();
+    for ((name, possible), answers) in &calls {
+        print!("{name:<16}{:>8}", answers.iter().sum::<u64>());
+        for &number in &numbers {
+            let seen = answers[number];
+            match possible.contains(&number) {
+                true => print!("{seen:>8}"),
+                false => print!("{:>8}", if seen == 0 { "" } else { "?" }),
+            }
+            complete &= (seen > 0) == possible.contains(&number);
+        }
+        println!();
+    }
+    print!("{:<24}", "answers");
+    for &number in &numbers {
+        print!("{:>8}", calls.iter().map(|(_, answers)| answers[number]).sum::<u64>());
+    }
+    println!();
+    complete
+}
+
+/// The same for cards; false also if something that has to come up in their lists did not.
+fn print_cards(totals: &Totals) -> bool {
+    let answers = print_answers(totals, true);
+    totals.cards.print() && answers
+}
+
+/// The same for all other calls; false also if memory decided too few setpoints.
 fn print(totals: &Totals) -> bool {
     let mut complete = totals.inside > 0 && totals.outside > 0 && totals.recovered > 0;
     complete &= totals.differing > 0;
     complete &= totals.decided.iter().all(|setpoints| DECIDED * setpoints >= totals.calls);
     complete &= totals.small.iter().chain(&totals.listings).all(|&seen| seen > 0);
     complete &= totals.histories.iter().flatten().chain(&totals.periods).all(|&lists| lists > 0);
-    print!("{:<16}{:>8}", "call", "calls");
-    (0..NUMBERS).for_each(|number| print!("{number:>8}"));
-    println!();
-    for ((name, possible), answers) in CALLS.iter().zip(&totals.answers) {
-        print!("{name:<16}{:>8}", answers.iter().sum::<u64>());
-        for (number, seen) in answers.iter().enumerate() {
-            match possible.contains(&number) {
-                true => print!("{seen:>8}"),
-                false => print!("{:>8}", if *seen == 0 { "" } else { "?" }),
-            }
-            complete &= (*seen > 0) == possible.contains(&number);
-        }
-        println!();
-    }
-    print!("{:<24}", "answers");
-    for number in 0..NUMBERS {
-        print!("{:>8}", totals.answers.iter().map(|answers| answers[number]).sum::<u64>());
-    }
-    println!();
+    complete &= print_answers(totals, false);
     println!(
         "frames inside the premise {}, outside {}; recovered memories {}",
         totals.inside, totals.outside, totals.recovered
@@ -172,12 +208,12 @@ fn print(totals: &Totals) -> bool {
     complete
 }
 
-fn run(count: u64, first: u64, bare: bool) -> bool {
+fn run(kind: Kind, print: fn(&Totals) -> bool, count: u64, first: u64, bare: bool) -> bool {
     let mut totals = Totals::default();
     let least = &AtomicU64::new(u64::MAX);
     let parts: Vec<_> = std::thread::scope(|scope| {
         let count = count.div_ceil(WORKERS);
-        let worker = |number| scope.spawn(move || work(first + number, count, bare, least));
+        let worker = |number| scope.spawn(move || work(kind, first + number, count, bare, least));
         let workers: Vec<_> = (0..WORKERS).map(worker).collect();
         workers.into_iter().map(|worker| worker.join().expect("no panic")).collect()
     });
@@ -234,6 +270,7 @@ fn together(count: u64) -> bool {
         let mut totals = Totals::default();
         for seed in 0.. {
             compare(USUAL, seed, &mut totals, false)?;
+            compare(CARDS, seed, &mut totals, false)?;
             if totals.calls >= count {
                 break;
             }
@@ -285,14 +322,22 @@ fn numbers(arguments: &[&str], run: impl Fn(u64, u64) -> bool) -> bool {
 pub fn main() -> ExitCode {
     let arguments: Vec<String> = std::env::args().skip(1).collect();
     let arguments: Vec<&str> = arguments.iter().map(String::as_str).collect();
+    let usual = |count, first, bare| run(USUAL, print, count, first, bare);
+    let cards = |count, first, bare| run(CARDS, print_cards, count, first, bare);
+    let one = |kind, seed: &str| seed.parse().map_or_else(|_| usage(), |seed| one(kind, seed));
     let equal = match *arguments {
         ["--broken", tests, library, work] => broken::run(tests, library, work),
-        ["--seed", seed] => seed.parse().map_or_else(|_| usage(), |seed| one(USUAL, seed)),
-        ["--long-seed", seed] => seed.parse().map_or_else(|_| usage(), |seed| one(LONG, seed)),
+        ["--seed", seed] => one(USUAL, seed),
+        ["--cards-seed", seed] => one(CARDS, seed),
+        ["--long-seed", seed] => one(LONG, seed),
         ["--long", ref given @ ..] => numbers(given, long),
         ["--threads", count] => count.parse().map_or_else(|_| usage(), together),
-        ["--bare", ref given @ ..] => numbers(given, |count, first| run(count, first, true)),
-        ref given => numbers(given, |count, first| run(count, first, false)),
+        ["--cards", ref given @ ..] => numbers(given, |count, first| cards(count, first, false)),
+        ["--bare", "--cards", ref given @ ..] => {
+            numbers(given, |count, first| cards(count, first, true))
+        }
+        ["--bare", ref given @ ..] => numbers(given, |count, first| usual(count, first, true)),
+        ref given => numbers(given, |count, first| usual(count, first, false)),
     };
     match equal {
         true => ExitCode::SUCCESS,

@@ -1,12 +1,14 @@
 //! The calls that the library exports: what each answers and writes, on numbers, words and slices.
 //!
 //! What the calls do and when they are refused is document 01's, the agreement request 2026-02's,
-//! the histories 2026-05's and what the plane remembers 2026-06's; beside a refusal a number that a
-//! call gives is 0. Plan, memory, system and run as words are the library's own layout, which
-//! document 01 has not and include/ragbasalt.h tells: a plan is 446 words, a memory a counter and
-//! 32 patterns, a system 7 memories, 7 good counts and the 8 patterns last handed on, a run a
-//! system, a memory, R and a frame number. Any words may stand in them.
+//! the histories 2026-05's, what the plane remembers 2026-06's and the card 2026-07's; beside a
+//! refusal a number that a call gives is 0. Plan, memory, system, run and card as words are the
+//! library's own layout, which document 01 has not and include/ragbasalt.h tells: a plan is 446
+//! words, a memory a counter and 32 patterns, a system 7 memories, 7 good counts and the 8 patterns
+//! last handed on, a run a system, a memory, R and a frame number, a card a memory, phase, flags and
+//! mask, with 1,813 bytes of bins beside it. Any words and bytes may stand in them.
 
+use super::card::{Bin, Card};
 use super::frame::{fault_length, message_length, Memory, System};
 use super::generate::plan_text;
 use super::histories::histories;
@@ -35,9 +37,15 @@ pub const SINGLE_AT: usize = SYSTEM_WORDS;
 pub const PERIOD_AT: usize = SINGLE_AT + MEMORY_WORDS;
 pub const FRAME_AT: usize = PERIOD_AT + 1;
 pub const RUN_WORDS: usize = FRAME_AT + 1;
+/// A memory, the phase, the flags, the mask; bins of a mark and a message.
+pub const PHASE_AT: usize = MEMORY_WORDS;
+pub const FLAGS_AT: usize = PHASE_AT + 1;
+pub const MASK_AT: usize = FLAGS_AT + 1;
+pub const CARD_WORDS: usize = MASK_AT + 1;
+pub const BINS_BYTES: usize = NODES * (3 + 8 * CELLS);
 
 /// The largest number of a refusal, and the bytes of its line.
-const LAST_REFUSAL: u64 = 11;
+const LAST_REFUSAL: u64 = 12;
 const REFUSAL_LINE: usize = 13;
 
 /// "An unused task is a Take of zeros."
@@ -307,6 +315,95 @@ pub fn single_frame(
     own.compute(plan, sensors);
     put_setpoints(plan, &own, place);
     put_memory(&own, memory);
+    0
+}
+
+// ---- calls on a card, which is 36 words, and its bins, which are 1,813 bytes
+
+/// The bytes of a bin: its mark and its message.
+pub fn bin_length(plan: &Plan) -> usize {
+    1 + message_length(plan)
+}
+
+/// The card that words are, with its n bins, of which a call on the page has none.
+fn card_of(plan: &Plan, words: &[u64], bins: &[u8]) -> Card {
+    let bin = |bytes: &[u8]| Bin { mark: bytes[0], message: bytes[1..].to_vec() };
+    let bins = bins.chunks_exact(bin_length(plan)).take(plan.nodes).map(bin).collect();
+    let memory = memory_of(plan, words);
+    Card::handed_in(memory, words[PHASE_AT], words[FLAGS_AT], words[MASK_AT], bins)
+}
+
+/// Bytes past the n bins stay, as words past the cells do.
+fn put_card(plan: &Plan, card: &Card, words: &mut [u64], bins: &mut [u8]) {
+    put_memory(&card.memory, words);
+    let page = [card.phase, card.flags, card.mask];
+    words[PHASE_AT..CARD_WORDS].copy_from_slice(&page.map(u64::from));
+    for (bin, bytes) in card.bins.iter().zip(bins.chunks_exact_mut(bin_length(plan))) {
+        bytes[0] = bin.mark;
+        bytes[1..].copy_from_slice(&bin.message);
+    }
+}
+
+pub fn card_power_on(plan: Option<&Plan>, card: &mut [u64], bins: &mut [u8]) -> u64 {
+    let Some(plan) = plan else { return answer(7, 0) };
+    card.fill(0);
+    bins.fill(0);
+    put_card(plan, &Card::power_on(plan), card, bins);
+    0
+}
+
+/// "12, an access outside the page or a write to a byte other than 4 and 5, after 7."
+pub fn card_read(plan: Option<&Plan>, card: &[u64], at: u64, value: &mut u8) -> u64 {
+    *value = 0;
+    let Some(plan) = plan else { return answer(7, 0) };
+    let Some(byte) = card_of(plan, card, &[]).read(at) else { return answer(12, 0) };
+    *value = byte;
+    0
+}
+
+pub fn card_write(plan: Option<&Plan>, card: &mut [u64], at: u64, value: u8) -> u64 {
+    let Some(plan) = plan else { return answer(7, 0) };
+    let mut own = card_of(plan, card, &[]);
+    if own.write(at, value).is_none() {
+        return answer(12, 0);
+    }
+    put_card(plan, &own, card, &mut []);
+    0
+}
+
+/// "A wrong length is 8 in any phase, for any bin number."
+pub fn card_deliver(
+    plan: Option<&Plan>,
+    card: &mut [u64],
+    bins: &mut [u8],
+    number: u64,
+    message: &[u8],
+) -> u64 {
+    let Some(plan) = plan else { return answer(7, 0) };
+    if message.len() != message_length(plan) {
+        return answer(8, 0);
+    }
+    let mut own = card_of(plan, card, bins);
+    own.deliver(number, message);
+    put_card(plan, &own, card, bins);
+    0
+}
+
+/// "Every tick checks sensors and setpoint place by 8."
+pub fn card_tick(
+    plan: Option<&Plan>,
+    card: &mut [u64],
+    bins: &mut [u8],
+    sensors: &[u64],
+    place: &mut [u64],
+) -> u64 {
+    let Some(plan) = plan else { return answer(7, 0) };
+    if sensors.len() != plan.sensors || place.len() != plan.actuators {
+        return answer(8, 0);
+    }
+    let mut own = card_of(plan, card, bins);
+    own.tick(plan, sensors, place);
+    put_card(plan, &own, card, bins);
     0
 }
 

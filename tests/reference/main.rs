@@ -1,10 +1,12 @@
 //! An independent reference for the voting frame controller, written from document 01 and requests
-//! 2026-01, 2026-02, 2026-04, 2026-05 and 2026-06 alone, with a generator of test cases and a
-//! comparer. See README.md.
+//! 2026-01, 2026-02 and 2026-04 to 2026-07 alone, with a generator of test cases and a comparer. See
+//! README.md.
 
 #[allow(dead_code)]
 #[cfg(test)]
 mod calls;
+#[cfg(test)]
+mod card;
 mod cases;
 mod check;
 mod compare;

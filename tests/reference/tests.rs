@@ -1,9 +1,11 @@
 //! Document 01's short table and plan K, cams, agreements, presses of one and two nodes, fault
-//! histories, ties at the plane, and refusals worked out by hand, and the premise of demand 3.
+//! histories, ties at the plane, the mailbox card, and refusals worked out by hand, and the premise
+//! of demand 3.
 
 use std::collections::{BTreeMap, BTreeSet};
 
 use super::calls;
+use super::card::Card;
 use super::cases::{case, class_of, histories_case, CLASSES, HISTORIES_CLASSES};
 use super::check;
 use super::frame::{
@@ -1096,15 +1098,17 @@ fn lines_of_refusals() {
     assert_eq!(refusal_line(3 + 256, 15), of("   3       1\n.."));
     assert_eq!(refusal_line(6, 13), of("   6       0\n"));
     assert_eq!(refusal_line(11, 13), of("  11       0\n"));
-    // No call gives these: 3 is of line 1, and 6 to 9 have none.
+    assert_eq!(refusal_line(12, 13), of("  12       0\n"));
+    // No call gives these: 3 is of line 1, and 6 to 9 and 12 have none.
     assert_eq!(refusal_line(3 + 256 * 7, 13), of("   3       1\n"));
     assert_eq!(refusal_line(9 + 256 * 7, 13), of("   9       0\n"));
+    assert_eq!(refusal_line(12 + 256 * 7, 13), of("  12       0\n"));
     assert_eq!(refusal_line(2 + 256 * 1_234_567_890, 13), of("   234567890\n"));
     assert_eq!(refusal_line(2 + 256 * 100_000_001, 13), of("   200000001\n"));
-    for answer in [0, 12, 255, 256, 12 + 256 * 7] {
+    for answer in [0, 13, 255, 256, 13 + 256 * 7] {
         assert_eq!(refusal_line(answer, 14), (0, 0, ".".repeat(14)));
     }
-    for answer in [0, 1, 10, 12] {
+    for answer in [0, 1, 10, 12, 13] {
         assert_eq!(refusal_line(answer, 12), (8, 0, ".".repeat(12)));
     }
 }
@@ -1856,6 +1860,321 @@ fn histories_of_all_presses() {
     }
     println!("plans by nodes and recovery period {seen:?}");
     assert!(seen.len() == 21 && seen.values().all(|&plans| plans > 10));
+}
+
+/// A card of K as words and bytes: a counter with other bits above its 16, cells 7 and 8, and 9 in
+/// every other word and byte, so that no bin is filled.
+struct Held {
+    card: Vec<u64>,
+    bins: Vec<u8>,
+}
+
+impl Held {
+    fn of(phase: u64, flags: u64, mask: u64) -> Held {
+        let mut card = vec![9; 36];
+        card[..3].copy_from_slice(&[0x5_1234, 7, 8]);
+        card[33..].copy_from_slice(&[phase, flags, mask]);
+        Held { card, bins: vec![9; 1813] }
+    }
+
+    /// "No refusal changes the card." What is past two cells and three bins stays in any case.
+    fn call(&mut self, call: impl FnOnce(&Plan, &mut [u64], &mut [u8]) -> u64) -> u64 {
+        let before = (self.card.clone(), self.bins.clone());
+        let answer = call(&k(), &mut self.card, &mut self.bins);
+        assert!(answer == 0 || (&self.card, &self.bins) == (&before.0, &before.1));
+        assert_eq!((&self.card[3..33], &self.bins[57..]), (&before.0[3..33], &before.1[57..]));
+        answer
+    }
+
+    /// The answer, and the byte that is given.
+    fn read(&self, at: u64) -> (u64, u8) {
+        let mut value = 9;
+        (calls::card_read(Some(&k()), &self.card, at, &mut value), value)
+    }
+
+    fn write(&mut self, at: u64, value: u8) -> u64 {
+        self.call(|plan, card, _| calls::card_write(Some(plan), card, at, value))
+    }
+
+    fn deliver(&mut self, number: u64, message: &[u8]) -> u64 {
+        self.call(|plan, card, bins| calls::card_deliver(Some(plan), card, bins, number, message))
+    }
+
+    /// Delivers a bin of one byte, in broadcast: no other bin changes. Gives the flags after it.
+    fn fill(&mut self, number: usize, byte: u8) -> u64 {
+        let mut bins = self.bins.clone();
+        bins[19 * number..19 * number + 19].fill(byte);
+        bins[19 * number] = 1;
+        assert_eq!((self.deliver(number as u64, &[byte; 18]), &self.bins), (0, &bins));
+        self.card[34]
+    }
+
+    /// The answer, and what stands in a place of 9 after the call.
+    fn tick(&mut self, sensor: u64) -> (u64, u64) {
+        let mut place = [9];
+        let given = &mut place;
+        let call = |plan: &Plan, card: &mut [u64], bins: &mut [u8]| {
+            calls::card_tick(Some(plan), card, bins, &[sensor], given)
+        };
+        (self.call(call), place[0])
+    }
+
+    /// Phase, flags and mask as words.
+    fn page(&self) -> [u64; 3] {
+        self.card[33..].try_into().unwrap()
+    }
+
+    fn marks(&self) -> [u8; 3] {
+        [0, 19, 38].map(|at| self.bins[at])
+    }
+}
+
+/// "Bytes 0-1 hold the counter, big-endian. Byte 2 is the phase .. Bytes 5-15 read as 0."
+#[test]
+fn page_of_a_card() {
+    let held = Held::of(2, 1, 3);
+    let page: Vec<_> = (0..16).map(|at| held.read(at)).collect();
+    let bytes = [0x12, 0x34, 2, 1 | 4, 3, 0, 0, 0, 0, 0, 0, 0, 0, 0, 0, 0];
+    assert_eq!(page, bytes.map(|byte| (0, byte)));
+    // "An access outside the page."
+    for at in [16, 17, 255, 256, 260, 1 << 16, (1 << 32) + 2, MINUS | 3, u64::MAX] {
+        assert_eq!(held.read(at), (12, 0));
+    }
+    // The page shows the counter as it is now: K computes in frame 0 of an even counter, and then
+    // has counter 1, which the other nodes outvote.
+    let mut held = Held::of(0, 0, 0);
+    assert_eq!((held.tick(5), held.read(0), held.read(1)), ((0, 9), (0, 0), (0, 1)));
+    (0..3).for_each(|bin| assert_eq!(held.deliver(bin, &message(0, [0, 6])), 0));
+    assert_eq!(
+        (held.tick(5), held.read(1), held.tick(5), held.read(1)),
+        ((0, 9), (0, 1), (0, 9), (0, 0))
+    );
+}
+
+/// "Bit 2 is 1 while a masked-in flag is, else 0"; "a mask or flag bit not named here as 0".
+#[test]
+fn interrupt_line_of_a_card() {
+    for (flags, mask) in (0..256).flat_map(|flags| (0..256).map(move |mask| (flags, mask))) {
+        let held = Held::of(0, MINUS | 256 | flags, MINUS | 256 | mask);
+        let masked_in = flags % 2 == 1 && mask % 2 == 1 || flags / 2 % 2 == 1 && mask / 2 % 2 == 1;
+        let byte = (flags % 4) as u8 + if masked_in { 4 } else { 0 };
+        assert_eq!((held.read(3), held.read(4)), ((0, byte), (0, (mask % 4) as u8)));
+    }
+}
+
+/// "Byte 4 is the interrupt mask for bits 0 and 1, its other bits always 0"; "byte 5 is written
+/// with ones to clear bits 0 and 1". A bit 2 written there clears nothing.
+#[test]
+fn writes_to_a_card() {
+    for (value, mask) in [(0, 0), (1, 1), (2, 2), (3, 3), (4, 0), (254, 2), (255, 3)] {
+        let mut held = Held::of(2, 3, 1);
+        assert_eq!((held.write(4, value), held.page()), (0, [2, 3, mask]));
+        assert_eq!((held.read(4), held.card[0]), ((0, mask as u8), 0x1234));
+    }
+    for (value, flags) in [(0, 3), (1, 2), (2, 1), (3, 0), (4, 3), (252, 3), (255, 0)] {
+        let mut held = Held::of(1, 3, 2);
+        assert_eq!((held.write(5, value), held.page()), (0, [1, flags, 2]));
+        assert_eq!(held.read(5), (0, 0));
+    }
+    // Two ticks and a clear: the line falls, and rises again with the next tick.
+    let mut held = Held::of(0, 0, 0);
+    let mut line = |call: fn(&mut Held) -> u64| {
+        assert_eq!(call(&mut held), 0);
+        held.read(3).1
+    };
+    assert_eq!(line(|held| held.tick(5).0), 1);
+    assert_eq!(line(|held| held.write(4, 1)), 5);
+    assert_eq!(line(|held| held.write(5, 2)), 5);
+    assert_eq!(line(|held| held.write(5, 1)), 0);
+    assert_eq!(line(|held| held.tick(5).0), 5);
+    assert_eq!(line(|held| held.write(4, 2)), 1);
+}
+
+/// "Errors: 12, an access outside the page or a write to a byte other than 4 and 5, after 7."
+/// "Every tick checks sensors and setpoint place by 8"; "a wrong length is 8 in any phase, for any
+/// bin number".
+#[test]
+fn order_of_refusals_of_a_card() {
+    let (plan, mut value) = (k(), 9);
+    for phase in 0..9 {
+        let mut held = Held::of(phase, 255, 255);
+        for at in (0..4).chain(6..18).chain([255, 260, 261, MINUS | 4, u64::MAX]) {
+            assert_eq!(held.write(at, 255), 12);
+        }
+        for (number, bytes) in [0, 2, 3, 7, u64::MAX].into_iter().zip([0, 17, 19, 54, 17]) {
+            assert_eq!(held.deliver(number, &vec![1; bytes]), 8);
+        }
+        for (sensors, room) in [(0, 1), (2, 1), (1, 0), (1, 2), (2, 2)] {
+            let (sensors, mut place) = (vec![5; sensors], vec![9; room]);
+            let tick = |plan: &Plan, card: &mut [u64], bins: &mut [u8]| {
+                calls::card_tick(Some(plan), card, bins, &sensors, &mut place)
+            };
+            assert_eq!((held.call(tick), place), (8, vec![9; room]));
+        }
+        // 7 comes before 12 and 8.
+        for at in [3, 4, 16] {
+            assert_eq!((calls::card_read(None, &held.card, at, &mut value), value), (7, 0));
+            assert_eq!(held.call(|_, card, _| calls::card_write(None, card, at, 1)), 7);
+        }
+        for bytes in [17, 18] {
+            let message = vec![1; bytes];
+            assert_eq!(held.call(|_, c, b| calls::card_deliver(None, c, b, 0, &message)), 7);
+            assert_eq!(held.call(|_, c, b| calls::card_tick(None, c, b, &[5], &mut [])), 7);
+        }
+        assert_eq!(held.call(|_, card, bins| calls::card_power_on(None, card, bins)), 7);
+    }
+    let Held { mut card, mut bins } = Held::of(7, 255, 255);
+    assert_eq!(calls::card_power_on(Some(&plan), &mut card, &mut bins), 0);
+    assert_eq!((card, bins), (vec![0; 36], vec![0; 1813]));
+    let Held { mut card, mut bins } = Held::of(7, 255, 255);
+    assert_eq!(calls::card_power_on(Some(&crossed([3, 7])), &mut card, &mut bins), 0);
+    assert_eq!((&card[..4], &card[4..], bins), (&[0, 3, 7, 0][..], &[0; 32][..], vec![0; 1813]));
+}
+
+/// "A phase handed in counts modulo 4, a mask or flag bit not named here as 0": the card comes back
+/// so, also from a delivery that changes nothing else.
+#[test]
+fn any_words_are_a_card() {
+    for high in [0, 4, 1 << 8, 1 << 32, MINUS, u64::MAX - 3] {
+        for phase in 0..4 {
+            let held = || Held::of(high | phase, high | 2, high | 1);
+            assert_eq!(held().read(2), (0, phase as u8));
+            let mut written = held();
+            assert_eq!((written.write(5, 0), written.page()), (0, [phase, 2, 1]));
+            let mut ticked = held();
+            assert_eq!((ticked.tick(5).0, ticked.page()), (0, [(phase + 1) % 4, 3, 1]));
+            let mut delivered = held();
+            assert_eq!(delivered.deliver(3, &[1; 18]), 0);
+            assert_eq!((delivered.page(), delivered.card[0]), ([phase, 2, 1], 0x1234));
+            assert_eq!(delivered.bins, [9; 1813]);
+            // A bin is taken in phase 1 alone.
+            assert_eq!(delivered.deliver(2, &[1; 18]), 0);
+            assert_eq!(delivered.marks(), if phase == 1 { [9, 9, 1] } else { [9; 3] });
+            assert_eq!(delivered.bins != [9; 1813], phase == 1);
+        }
+    }
+}
+
+/// "Bit 1 is set when the last empty bin is filled": not a bin early, and not again by a bin that
+/// was full. "A bin delivered again replaces the first."
+#[test]
+fn bins_of_a_card() {
+    let mut held = Held::of(1, 0, 3);
+    assert_eq!((held.fill(2, 3), held.fill(0, 4), held.fill(0, 5)), (0, 0, 0));
+    assert_eq!((held.fill(1, 6), held.read(3)), (2, (0, 6)));
+    assert_eq!((held.fill(1, 7), held.write(5, 2), held.read(3)), (2, 0, (0, 0)));
+    assert_eq!((held.fill(1, 8), held.fill(2, 9)), (0, 0));
+    // Numbers from n up, also such as are right in their low bits.
+    let bins = held.bins.clone();
+    for number in [3, 4, 7, 256, (1 << 32) + 1, MINUS, u64::MAX] {
+        assert_eq!((held.deliver(number, &[6; 18]), held.page()), (0, [1, 0, 3]));
+        assert_eq!(held.bins, bins);
+    }
+    // Of bins with the marks 0, 2 and 1 two are empty.
+    let mut held = Held::of(1, 1, 0);
+    (held.bins[0], held.bins[19], held.bins[38]) = (0, 2, 1);
+    assert_eq!((held.fill(1, 3), held.fill(0, 3), held.marks()), (1, 3, [1; 3]));
+}
+
+/// "Leaving sync gives the setpoints; other ticks don't touch their place." "Entering compute
+/// empties all": marks of any value, and nothing but marks; bit 1 stays.
+#[test]
+fn ticks_of_a_card() {
+    let mut held = Held::of(3, 2, 2);
+    held.bins[0] = 1;
+    assert_eq!((held.tick(5), held.page()), ((0, 8), [0, 3, 2]));
+    assert_eq!((held.marks(), held.read(3)), ([0; 3], (0, 7)));
+    held.bins.iter_mut().step_by(19).take(3).for_each(|mark| *mark = 9);
+    assert_eq!(held.bins, [9; 1813]);
+    // Frame 0: the sensor into cell 0. Broadcast changes phase and flag alone.
+    assert_eq!((held.tick(5), held.page(), &held.card[..3]), ((0, 9), [1, 3, 2], &[1, 5, 8][..]));
+    assert_eq!((held.write(5, 3), held.page()), (0, [1, 0, 2]));
+    assert_eq!((held.tick(6), held.page(), &held.card[..3]), ((0, 9), [2, 1, 2], &[1, 5, 8][..]));
+    assert_eq!(held.bins, [9; 1813]);
+    // Three empty bins: counter 0 of each is voted in, and with it cell 1, which is 0 in each.
+    assert_eq!((held.tick(6), held.page(), &held.card[..3]), ((0, 9), [3, 1, 2], &[0, 5, 0][..]));
+    assert_eq!(held.bins, [9; 1813]);
+    assert_eq!((held.tick(6), held.page(), &held.card[..3]), ((0, 0), [0, 1, 2], &[0, 5, 0][..]));
+}
+
+/// Four ticks of K's card with counter 1 and cells 2 and 1, of which frame 1 makes 3 as cell 1. Bins
+/// are delivered as (phase, number, cell 1); gives the setpoint.
+fn k_frame(delivered: &[(u64, u64, f64)]) -> f64 {
+    let mut held = Held::of(0, 3, 0);
+    held.card[..3].copy_from_slice(&[1, 2f64.to_bits(), 1f64.to_bits()]);
+    let places = [0, 1, 2, 3].map(|phase| {
+        for &(_, number, cell) in delivered.iter().filter(|(at, ..)| *at == phase) {
+            assert_eq!(held.deliver(number, &message(0, [0, cell.to_bits()])), 0);
+        }
+        // Only the first tick's sensors count; frame 1 takes none.
+        held.tick(phase)
+    });
+    assert_eq!((&places[..3], held.page()[0], held.marks()), (&[(0, 9); 3][..], 0, [0; 3]));
+    assert_eq!(held.card[2], places[3].1);
+    f64::from_bits(places[3].1)
+}
+
+/// A frame of a card by hand. Two of three bins are more than half.
+#[test]
+fn bins_that_a_card_votes_on() {
+    assert_eq!(k_frame(&[(1, 0, 3.0), (1, 1, 3.0), (1, 2, 3.0)]), 3.0);
+    assert_eq!(k_frame(&[(1, 2, 4.0), (1, 0, 3.0), (1, 1, 4.0)]), 4.0);
+    // No two are the same: its own stays.
+    assert_eq!(k_frame(&[(1, 0, 4.0), (1, 1, 5.0), (1, 2, 6.0)]), 3.0);
+    // The last delivery of a bin counts.
+    assert_eq!(k_frame(&[(1, 0, 4.0), (1, 1, 5.0), (1, 0, 6.0), (1, 2, 6.0)]), 6.0);
+    assert_eq!(k_frame(&[(1, 0, 6.0), (1, 1, 5.0), (1, 0, 4.0), (1, 2, 6.0)]), 3.0);
+    // A bin still empty counts as zero bytes: beside two others, one other, and none.
+    assert_eq!(k_frame(&[(1, 0, 4.0), (1, 1, 4.0)]), 4.0);
+    assert_eq!(k_frame(&[(1, 0, 4.0), (1, 1, 0.0)]), 0.0);
+    assert_eq!(k_frame(&[(1, 0, 4.0)]), 0.0);
+    assert_eq!(k_frame(&[]), 0.0);
+    // Bins before and after broadcast, and from n up.
+    assert_eq!(k_frame(&[(0, 0, 4.0), (0, 1, 4.0), (0, 2, 4.0)]), 0.0);
+    assert_eq!(k_frame(&[(1, 0, 4.0), (1, 1, 4.0), (2, 0, 5.0), (2, 2, 5.0), (3, 1, 5.0)]), 4.0);
+    assert_eq!(k_frame(&[(1, 0, 4.0), (1, 1, 5.0), (1, 3, 5.0), (1, 258, 5.0)]), 3.0);
+}
+
+/// "Four ticks not refused from compute with all bins empty .. must give that node's frame for the
+/// sensors of the first and the bins delivered": cards from power-on beside the system of the same
+/// run. A bad node's card has the fill in its memory after the frame, and is in compute with empty
+/// bins; what it sends is not delivered where it is zero bytes.
+#[test]
+fn four_ticks_are_a_frame() {
+    let classes = ["within the premise", "outside the premise", "ties at the plane"];
+    for case in (0..300).map(case).filter(|case| classes.contains(&case.class)) {
+        let plan = read(&case.plan.unwrap()).unwrap();
+        let (mut system, mut place) = (System::power_on(&plan), vec![0; plan.actuators]);
+        let mut cards = vec![Card::power_on(&plan); plan.nodes];
+        for (mask, fill, sensors) in frames(&plan, case.run.unwrap()) {
+            let faults = vec![fill; fault_length(&plan)];
+            let good = |node: &usize| mask >> node & 1 == 0;
+            let nodes: Vec<_> = (0..plan.nodes).filter(good).collect();
+            let mut messages = vec![vec![fill; message_length(&plan)]; plan.nodes];
+            for &node in &nodes {
+                cards[node].tick(&plan, &sensors, &mut []);
+                cards[node].memory.message(&plan, &mut messages[node]);
+            }
+            for &node in &nodes {
+                for sender in (0..plan.nodes).rev().filter(|sender| good(sender) || fill != 0) {
+                    cards[node].deliver(sender as u64, &messages[sender]);
+                }
+                cards[node].tick(&plan, &[], &mut []);
+                cards[node].tick(&plan, &[], &mut []);
+                cards[node].tick(&plan, &[], &mut place);
+                let setpoint = |actuator| cards[node].memory.setpoint(&plan, actuator);
+                assert_eq!(place, (0..plan.actuators).map(setpoint).collect::<Vec<_>>());
+            }
+            system.frame(&plan, &sensors, mask, &faults, &mut place);
+            for (node, card) in cards.iter_mut().enumerate() {
+                assert!(card.phase == 0 && card.bins.iter().all(|bin| bin.mark == 0));
+                if !good(&node) {
+                    card.memory = system.memories[node].clone();
+                }
+                assert_eq!(card.memory, system.memories[node]);
+            }
+        }
+    }
 }
 
 #[test]

@@ -21,6 +21,7 @@ use Rattle.answer.specs.declared.Answer.the-variants.{
   MaskOrCount,
   RunLine,
   NodesOrLength,
+  PageAccess,
 }
 use Rattle.answer.specs.Refusal.{numberOf, lineOf}
 use Rattle.answer.specs.Tests.{refusalOf, Test, numberIn, lineIn, passed, answered}
@@ -47,6 +48,7 @@ answerOf-back WrongLength = refl
 answerOf-back MaskOrCount = refl
 answerOf-back (RunLine line) = refl
 answerOf-back NodesOrLength = refl
+answerOf-back PageAccess = refl
 
 pub answer-fixed : (a b : Answer) → numberOf a ≡ numberOf b → lineOf a ≡ lineOf b → a ≡ b
 answer-fixed a b e f = sym (answerOf-back a) ∙ ap₂ answerOf e f ∙ answerOf-back b
@@ -72,7 +74,8 @@ numbered n line =
     (first n 8 WrongLength _ refl (omega arith)
     (first n 9 MaskOrCount _ refl (omega arith)
     (first n 10 (RunLine line) _ refl (omega arith)
-    (first n 11 NodesOrLength none refl (omega arith) tt))))))))))
+    (first n 11 NodesOrLength _ refl (omega arith)
+    (first n 12 PageAccess none refl (omega arith) tt)))))))))))
 
 -- ---- a call's tests
 

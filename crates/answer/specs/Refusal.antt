@@ -15,6 +15,7 @@ use Rattle.answer.specs.declared.Answer.the-variants.{
   MaskOrCount,
   RunLine,
   NodesOrLength,
+  PageAccess,
 }
 
 -- the refusal's number; 0 for a call that is not refused
@@ -31,6 +32,7 @@ numberOf WrongLength = 8
 numberOf MaskOrCount = 9
 numberOf (RunLine line) = 10
 numberOf NodesOrLength = 11
+numberOf PageAccess = 12
 
 -- its line; refusal 3 is of the first line only
 abbrev pub lineOf : Answer → ℕ
@@ -46,3 +48,4 @@ lineOf WrongLength = 0
 lineOf MaskOrCount = 0
 lineOf (RunLine line) = line
 lineOf NodesOrLength = 0
+lineOf PageAccess = 0

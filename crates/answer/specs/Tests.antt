@@ -21,6 +21,7 @@ use Rattle.answer.specs.declared.Answer.the-variants.{
   MaskOrCount,
   RunLine,
   NodesOrLength,
+  PageAccess,
 }
 
 -- ---- the refusal with a number, of a line where it has one: `numberOf` and `lineOf` the other way round; no other number has one
@@ -37,7 +38,8 @@ refusalOf number line =
     (cond (eqb number 8) (some WrongLength)
     (cond (eqb number 9) (some MaskOrCount)
     (cond (eqb number 10) (some (RunLine line))
-    (cond (eqb number 11) (some NodesOrLength) none))))))))))
+    (cond (eqb number 11) (some NodesOrLength)
+    (cond (eqb number 12) (some PageAccess) none)))))))))))
 
 -- ---- a test: its refusal, by number and line, and whether it is passed
 

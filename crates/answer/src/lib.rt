@@ -19,6 +19,8 @@ pub enum Answer {
     RunLine(usize),
     // The calling program: more nodes, or another length, than histories are listed for.
     NodesOrLength,
+    // The calling program: an access outside a card's page, or a write to a byte of it that is not written to.
+    PageAccess,
 }
 
 impl Answer {
@@ -38,6 +40,7 @@ impl Answer {
             Answer::MaskOrCount => 9,
             Answer::RunLine(_) => 10,
             Answer::NodesOrLength => 11,
+            Answer::PageAccess => 12,
         }
     }
 
@@ -57,6 +60,7 @@ impl Answer {
             Answer::WrongLength => 0,
             Answer::MaskOrCount => 0,
             Answer::NodesOrLength => 0,
+            Answer::PageAccess => 0,
         }
     }
 }

@@ -10,7 +10,7 @@ use Rattle.plan.specs.declared.Plan.{Plan}
 use Rattle.plan.specs.Limits.{mostCells}
 use Rattle.plan.specs.Tables.{votedIn}
 use Rattle.memory.specs.declared.Memory.{Memory}
-use Rattle.memory.specs.Size.{counterSize, patternSize, cellAt, binAt}
+use Rattle.memory.specs.Size.{counterSize, patternSize, cellAt, binBytes, binAt}
 use Rattle.task.specs.Task.{runTasks}
 use Rattle.ballot.specs.Majority.{majority, agreement, orOwn}
 
@@ -44,6 +44,10 @@ messageOf p m = bytes counterSize (m .counter) ++ joined (λ c. bytes patternSiz
 -- what a message becomes in a bin
 unfoldable pub binOf : List ℕ → List ℕ
 binOf message = message
+
+-- "A node that sends nothing counts as having sent zero bytes": what stands in a bin, of a plan with so many cells, that nothing was sent to
+unfoldable pub notSent : ℕ → List ℕ
+notSent cells = replicate (binBytes cells) 0
 
 -- what the bin that starts at a place of some bytes says of the counter, and of cell c
 unfoldable pub counterFrom : List ℕ → ℕ → Option ℕ

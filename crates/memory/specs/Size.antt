@@ -1,5 +1,5 @@
 -- Document 01, 'Memory and frame': "the message is 2 + 8C bytes: the new counter, then the cells 0 to C−1, all big-endian".
--- A mailbox is n bins one after another. These names are the only place that knows the sizes.
+-- A mailbox is n bins one after another. These names are the only place that knows the sizes; the bins of a card have a mark more (card_bins/Bins).
 use Prim.Native.Nat.{ℕ, _+_, _*_}
 use Rattle.plan.specs.declared.Plan.{Plan}
 

@@ -71,6 +71,7 @@ pub fn answer_of(number: usize, line: usize) -> Answer
         9 => Answer::MaskOrCount,
         10 => Answer::RunLine(line),
         11 => Answer::NodesOrLength,
+        12 => Answer::PageAccess,
         _ => Answer::Done,
     }
 }

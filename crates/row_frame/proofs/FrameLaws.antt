@@ -45,7 +45,8 @@ use Rattle.rows.proofs.RowLaws.{row-at, memory-eq}
 use Rattle.row_word.specs.Code.{isGood, heardWord}
 use Rattle.row_counter.specs.Code.{frameBefore, counterAfter, counterAgreement}
 use Rattle.row_vote.specs.Code.{votedAt, sentWord, votedBy, wordAgreement, sentFrame, votedRow, rowAgreement}
-use Rattle.row_frame.specs.Code.{ran, spoiled, closedRow, putFrom, handedFrom}
+use Rattle.row_plane.specs.Code.{putFrom, handedFrom}
+use Rattle.row_frame.specs.Code.{ran, spoiled, closedRow}
 
 -- ---- the numbers of an accepted plan
 

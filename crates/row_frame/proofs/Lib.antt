@@ -1,3 +1,2 @@
 pub mod SpoilLaws
-pub mod PutLaws
 pub mod FrameLaws

@@ -1,18 +1,14 @@
 -- The code's own: what the phases of a frame make of the rows. No definition of document 01 cites these.
 use mathlib.Core.Bool.{Bool, cond}
 use mathlib.Core.List.{List}
-use mathlib.Core.Option.{Option, some}
 use Prim.Native.Nat.{ℕ, zero, suc}
 use lib.Dec.{ltb}
-use lib.ListN.{getD}
 use Rattle.array.specs.Bit.{bit}
 use Rattle.plan.specs.declared.Sizes.{Sizes}
 use Rattle.plan.specs.declared.Plan.{Plan}
 use Rattle.memory.specs.declared.Memory.{Memory}
 use Rattle.memory.specs.Node.{computed}
-use Rattle.system.specs.Fault.{faultMemory, faultSetpoint}
-use Rattle.ballot.specs.Plane.{plane}
-use Rattle.rows.specs.Code.{wordPlace}
+use Rattle.system.specs.Fault.{faultMemory}
 use Rattle.row_vote.specs.Code.{votedRow}
 
 -- row q after its tasks, where the rows from `first` on run theirs
@@ -27,11 +23,3 @@ spoiled s mask faults (suc j) m = cond (bit mask j) (faultMemory s faults j m) m
 -- row q after vote and faults, by the rows before them
 abbrev pub closedRow : List Bool → Sizes → ℕ → List ℕ → List ℕ → List ℕ → ℕ → Memory → Memory
 closedRow votes s mask faults counters cells q m = spoiled s mask faults q (votedRow votes s mask faults counters cells q m)
-
--- what node j puts out for actuator a, whose cell is `cell`
-abbrev pub putFrom : Sizes → ℕ → List ℕ → List ℕ → ℕ → ℕ → ℕ → Option ℕ
-putFrom s mask faults cells cell a j = cond (bit mask j) (faultSetpoint s faults j a) (some (getD cells (wordPlace (suc j) cell) 0))
-
--- what the plane hands on for actuator a, whose cell the table tells
-abbrev pub handedFrom : List ℕ → Sizes → ℕ → List ℕ → List ℕ → List ℕ → ℕ → ℕ
-handedFrom table s mask faults cells handed a = plane (putFrom s mask faults cells (getD table a 0) a) (s .nodes) (getD handed a 0)

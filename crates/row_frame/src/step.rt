@@ -11,7 +11,6 @@ ghost use Rattle.plan.specs.Limits.{mostFrames, mostCells};
 ghost use Rattle.plan.specs.Accepted.{accepted};
 ghost use Rattle.plan.specs.Sizes.{sizesOf};
 ghost use Rattle.cam.specs.Cam.{camTable};
-ghost use Rattle.ballot.specs.Code.{Told};
 ghost use Rattle.memory.specs.Size.{patternSize, cellAt};
 ghost use Rattle.memory.specs.Node.{computed};
 ghost use Rattle.system.specs.Counts.{goodAfter};
@@ -20,7 +19,8 @@ ghost use Rattle.faults.specs.Code.{Small, Parts};
 ghost use Rattle.rows.specs.Code.{rowCount, wordCount, memoryIn, Rows, Through};
 ghost use Rattle.row_word.specs.Code.{isGood};
 ghost use Rattle.row_vote.specs.Code.{rowAgreement};
-ghost use Rattle.row_frame.specs.Code.{spoiled, closedRow, putFrom, handedFrom};
+ghost use Rattle.row_plane.specs.Code.{handedFrom};
+ghost use Rattle.row_frame.specs.Code.{spoiled, closedRow};
 use plan::Plan;
 use plan::Sizes;
 use system::System;
@@ -57,58 +57,6 @@ fn spoil(s: Sizes, mask: u64, faults: &[u8], counters: &mut [u16], cells: &mut [
     }
 }
 
-// ---- what is put out
-
-// What the nodes put out for an actuator, whose cell is `cell`.
-fn put_out(
-    s: Sizes,
-    mask: u64,
-    faults: &[u8],
-    cells: &[u64],
-    cell: usize,
-    a: usize,
-) -> [u64; System::NODES]
-    requires { ⌜ Small s × Parts s mask (length (now faults)) × (length (now cells) ≡ wordCount) × (cell < mostCells) × (a < s .actuators) ⌝ }
-    ensures { λ r. ⌜ Told (putFrom s mask (now (faults .entry)) (now (cells .entry)) cell a) (s .nodes) r ⌝ }
-{
-    let nodes = s.nodes;
-    let mut values = [0u64; System::NODES];
-    let mut j: usize = 0;
-    while j < nodes {
-        if counts::step::is_bad(mask, j) {
-            values[j] = array::step::read_be8(faults, faults::step::setpoint_at(s, j, a));
-        } else {
-            values[j] = cells[Plan::CELLS * (j + 1) + cell];
-        }
-        j += 1;
-    }
-    values
-}
-
-// What the plane hands on takes the place of what it remembers.
-fn hand_on<'a>(
-    table: &'a [usize; Plan::ACTUATORS],
-    s: Sizes,
-    mask: u64,
-    faults: &[u8],
-    cells: &'a [u64],
-    seen: &mut [u64; rows::step::SEEN],
-)
-    requires { ⌜ Small s × Parts s mask (length (now faults)) × (length (now cells) ≡ wordCount) × ((a : ℕ) → a < s .actuators → getD (now table) a 0 < mostCells) ⌝ }
-    ensures { λ _. ⌜ now (seen .exit) ≡ filledWith (handedFrom (now (table .entry)) s mask (now (faults .entry)) (now (cells .entry)) (now (seen .entry))) (s .actuators) (now (seen .entry)) ⌝ }
-{
-    let actuators = s.actuators;
-    let nodes = s.nodes;
-    let mut a: usize = 0;
-    while a < actuators {
-        let cell = table[a];
-        let values = put_out(s, mask, faults, cells, cell, a);
-        let remembered = seen[a];
-        seen[a] = ballot::step::plane(&values, nodes, remembered);
-        a += 1;
-    }
-}
-
 // ---- the frame
 
 // A frame after its tasks: vote, faults, plane, good counts. It gives the frame's agreement.
@@ -128,7 +76,7 @@ fn close<'a>(
 {
     let agreement = row_vote::step::vote(voted, s, mask, faults, counters, cells);
     spoil(s, mask, faults, counters, cells);
-    hand_on(table, s, mask, faults, cells, seen);
+    row_plane::step::hand_on(table, s, mask, faults, cells, seen);
     counts::step::counts(good, s.nodes, mask, s.period);
     agreement
 }

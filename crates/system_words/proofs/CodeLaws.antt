@@ -3,11 +3,11 @@ use mathlib.Core.Path.{_≡_}
 use Prim.Native.Nat.{ℕ, _+_, _*_, _/_, _%_, _^_, _≤_, _<_}
 use native.Mathlib.Omega.{arith}
 use Rattle.answer.specs.declared.Answer.{Answer}
-use Rattle.answer.specs.declared.Answer.the-variants.{Done, TextLength, Malformed, Header, OutOfOrder, OutOfRange, Unrecoverable, InvalidPlan, WrongLength, MaskOrCount, RunLine, NodesOrLength}
+use Rattle.answer.specs.declared.Answer.the-variants.{Done, TextLength, Malformed, Header, OutOfOrder, OutOfRange, Unrecoverable, InvalidPlan, WrongLength, MaskOrCount, RunLine, NodesOrLength, PageAccess}
 use Rattle.answer.specs.Refusal.{numberOf, lineOf}
 use Rattle.system_words.specs.Words.{codeOf}
 
-pub number-small : (a : Answer) → numberOf a ≤ 11
+pub number-small : (a : Answer) → numberOf a ≤ 255
 number-small Done = omega arith
 number-small TextLength = omega arith
 number-small (Malformed line) = omega arith
@@ -20,8 +20,9 @@ number-small WrongLength = omega arith
 number-small MaskOrCount = omega arith
 number-small (RunLine line) = omega arith
 number-small NodesOrLength = omega arith
+number-small PageAccess = omega arith
 
-pub sum-fits : (n l : ℕ) → n ≤ 11 → n + l * 256 % 18446744073709551616 < 18446744073709551616
+pub sum-fits : (n l : ℕ) → n ≤ 255 → n + l * 256 % 18446744073709551616 < 18446744073709551616
 sum-fits n l h = omega (arith, h)
 
 pub code-sum : (a : Answer) {n l : ℕ} → n ≡ numberOf a → l ≡ lineOf a → n + l * 256 % 18446744073709551616 ≡ codeOf a

@@ -1,0 +1,5 @@
+pub mod StillLaws
+pub mod StretchLaws
+pub mod FourTicksLaws
+pub mod CardFrameLaws
+pub mod FlagLaws

@@ -1,0 +1,2 @@
+pub mod CardFrame
+pub mod Flags

@@ -1,0 +1,2 @@
+// A card as words and bytes.
+pub mod step;
