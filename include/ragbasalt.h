@@ -249,7 +249,7 @@
  *   setpoints can differ in their last bit or be 0, a plan against the rules can be accepted, and with an exception
  *   unmasked a call can end by a signal. ragbasalt_arithmetic_holds, the last function below, tells.
  * - There is stack. Measured on this archive, a call takes below its caller at most 25,300 bytes on a plan or on one node,
- *   31,500 on a card or a system, 33,600 for ragbasalt_listing_start and 72,000 for ragbasalt_listing_next. Allow for some
+ *   31,500 on a card or a system, 33,600 for ragbasalt_listing_start and 72,100 for ragbasalt_listing_next. Allow for some
  *   more.
  *
  * Everything else is answered: with these kept no content of a buffer, no length, no mask and no number makes a call trap or
