@@ -1,8 +1,10 @@
 // What a public call answers. Document 01 gives each refusal a number and a line: `number_of` and `line_of` say which.
+#![tactic(auto)]
+
 ghost use Rattle.std.specs.Prelude.{◌≡◌};
 ghost use Rattle.answer.specs.Refusal.{number_of, line_of};
 
-#[derive(Drop)]
+#[derive(Clone, Copy)]
 pub enum Answer {
     Done,
     // The plan's author: the text's length; a column or line end; the first line; order; range or constants; no recovery period.

@@ -1,2 +1,4 @@
 // The vocabulary of definitions over indices is in specs/; the code here is big-endian words in byte slices, and the copy of words.
+#![tactic(auto)]
+
 pub mod step;

@@ -1,4 +1,6 @@
 // The cut-off cam of request 2026-01: a constant table, by position.
+#![tactic(auto)]
+
 ghost use Rattle.std.specs.Prelude.{◌≡◌};
 ghost use Rattle.cam.specs.Cam.{cam_table};
 

@@ -1,4 +1,6 @@
 // Prints the cam's table from its rule, an entry a line, as the array of crates/cam has it; the gate compares the two.
+#![tactic(auto)]
+
 ghost use Rattle.std.specs.Prelude.{◌≡◌, ◌+◌, ◌-◌, ◌*◌, ◌/◌, ◌^◌, ◌≤◌};
 
 use libc::STDOUT_FILENO;

@@ -1,4 +1,6 @@
 // The card that a host drives: its page, its bins, and the node's frame by four ticks.
+#![tactic(auto)]
+
 ghost use Rattle.std.specs.Prelude.{◌≡◌};
 ghost use Rattle.card_step.specs.Calls.{writing, delivery, ticking, place_left};
 ghost use Rattle.card.specs.Card.{parts_of, card_of, card_power_on, card_outcome, page_read};
@@ -9,7 +11,7 @@ use memory::Memory;
 use plan::Plan;
 
 // The bins are the plan's n, one after another, each a mark and a message (`card_bins`); what is past them is neither read nor changed.
-#[derive(Drop)]
+#[derive(Clone, Copy)]
 pub struct Card {
     pub memory: Memory,
     pub phase: u8,
@@ -23,14 +25,14 @@ impl Card {
 }
 
 // What a call on a card gives.
-#[derive(Drop)]
+#[derive(Clone, Copy)]
 pub struct CardOutcome {
     pub answer: Answer,
     pub card: Card,
 }
 
 // What a read gives.
-#[derive(Drop)]
+#[derive(Clone, Copy)]
 pub struct PageRead {
     pub answer: Answer,
     pub value: u8,

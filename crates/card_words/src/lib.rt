@@ -1,2 +1,4 @@
 // A card as words and bytes.
+#![tactic(auto)]
+
 pub mod step;

@@ -1,4 +1,6 @@
 // A right-justified decimal column, read. `column_write` writes it.
+#![tactic(auto)]
+
 ghost use Rattle.std.specs.Prelude.{◌≡◌};
 ghost use Rattle.std.proofs.Math.Seq.{slice};
 ghost use Rattle.column.specs.Column.{drop_blanks, number_shown};

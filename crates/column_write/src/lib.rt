@@ -1,4 +1,6 @@
 // A right-justified decimal column, written.
+#![tactic(auto)]
+
 ghost use Rattle.std.specs.Prelude.{◌≡◌, length};
 ghost use Rattle.column.specs.Column.{mark, column};
 

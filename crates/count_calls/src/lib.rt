@@ -1,4 +1,6 @@
 // The calls that count nodes of a system: those that are working, and those that are equal to a memory.
+#![tactic(auto)]
+
 ghost use Rattle.std.specs.Prelude.{◌≡◌};
 ghost use Rattle.system.specs.CountCalls.{working_answer, equal_answer};
 

@@ -1,4 +1,6 @@
 // The call on a whole system: a frame under faults.
+#![tactic(auto)]
+
 ghost use Rattle.std.specs.Prelude.{◌≡◌, true, length};
 ghost use Rattle.plan.specs.Accepted.{accepted};
 ghost use Rattle.plan.specs.Known.{period as period_of};
@@ -22,7 +24,7 @@ fn lengths_ok(plan: Plan, period: usize, sensors: usize, faults: usize, place: u
 }
 
 // A record after a frame, and the frame's agreement.
-#[derive(Drop)]
+#[derive(Clone, Copy)]
 struct Stepped {
     system: System,
     agreement: usize,

@@ -1,4 +1,6 @@
 // The program of request 2026-05: reads plan.txt and prints the fault histories of three frames, one a line, or the refusal as a run does.
+#![tactic(auto)]
+
 ghost use Rattle.std.specs.Prelude.{◌≡◌, ◌∷◌, [], ◌*◌, ◌≤◌, length, take};
 ghost use Rattle.array.specs.Index.{joined, from};
 ghost use Rattle.array.specs.Code.{placed};

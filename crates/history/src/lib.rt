@@ -1,11 +1,13 @@
 // All fault histories of a small press: the sequences of masks in which every frame has more than half of the nodes working.
+#![tactic(auto)]
+
 ghost use Rattle.std.specs.Prelude.{◌≡◌, length};
 ghost use Rattle.history.specs.Answers.{histories_answer, histories_place};
 
 use answer::Answer;
 use plan::Plan;
 
-#[derive(Drop)]
+#[derive(Clone, Copy)]
 pub struct HistoriesListed {
     pub answer: Answer,
     pub count: usize,

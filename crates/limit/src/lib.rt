@@ -1,4 +1,6 @@
 // Limit and Wind on patterns.
+#![tactic(auto)]
+
 ghost use Rattle.std.specs.Prelude.{◌≡◌};
 ghost use Rattle.std.specs.Float.Ieee.{lt};
 ghost use Rattle.pattern.specs.Pattern.{value_of, limit_of, wind_limit_of, wind_of};

@@ -24,7 +24,7 @@ use system::System;
 pub const BLOCK: usize = 128;
 
 // A line that is run or refused, and what stands after it.
-#[derive(Drop)]
+#[derive(Clone, Copy)]
 pub struct Stepped {
     pub taken: bool,
     pub system: System,

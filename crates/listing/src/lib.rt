@@ -1,4 +1,6 @@
 // The run listing: the next line of a run. The call answers any state; the steps under it are in `run_line` and `lines`.
+#![tactic(auto)]
+
 ghost use Rattle.std.specs.Prelude.{◌≡◌, true, ◌+◌, min, length};
 ghost use Rattle.answer.specs.declared.Answer.TheVariants.{RunLine};
 ghost use Rattle.plan.specs.Known.{period as period_of};

@@ -1,4 +1,6 @@
 // The run listing's calls beside the next line's: start from a plan text, and a refusal's line. Each answers any input.
+#![tactic(auto)]
+
 ghost use Rattle.std.specs.Prelude.{◌≡◌, length};
 ghost use Rattle.listing_start.specs.Answers.{start_answer, refusal_written, refusal_place};
 
@@ -7,7 +9,7 @@ use lines::Run;
 use plan_text::TextWritten;
 use system::System;
 
-#[derive(Drop)]
+#[derive(Clone, Copy)]
 pub struct Started {
     pub answer: Answer,
     pub run: Run,

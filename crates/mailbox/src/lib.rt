@@ -1,2 +1,4 @@
 // What one node sends, and its vote on the bins of its mailbox.
+#![tactic(auto)]
+
 pub mod step;

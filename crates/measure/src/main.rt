@@ -1,5 +1,7 @@
 // Reads the plan text in `plan.txt` again and again, so that bench/ can count what that costs: the difference between two counts of repeats.
 // Standard input has a row: how often (width 8). It prints a sum of what the calls gave.
+#![tactic(auto)]
+
 use libc::{STDIN_FILENO, STDOUT_FILENO};
 use numeral::Number;
 

@@ -1,4 +1,6 @@
 // One node's memory.
+#![tactic(auto)]
+
 ghost use Rattle.std.specs.Prelude.{◌≡◌};
 ghost use Rattle.memory.specs.Node.{zero_memory};
 
@@ -8,28 +10,28 @@ use plan::Plan;
 pub mod step;
 
 // Any memory is legal input; what lies past the plan's cells is neither read nor changed.
-#[derive(Drop)]
+#[derive(Clone, Copy)]
 pub struct Memory {
     pub counter: u16,
     pub cells: [u64; Plan::CELLS],
 }
 
 // What a call on a memory gives.
-#[derive(Drop)]
+#[derive(Clone, Copy)]
 pub struct Outcome {
     pub answer: Answer,
     pub memory: Memory,
 }
 
 // What a vote leaves: the memory, and the vote's agreement.
-#[derive(Drop)]
+#[derive(Clone, Copy)]
 pub struct Vote {
     pub memory: Memory,
     pub agreement: usize,
 }
 
 // What a vote call gives.
-#[derive(Drop)]
+#[derive(Clone, Copy)]
 pub struct VoteOutcome {
     pub answer: Answer,
     pub memory: Memory,

@@ -1,4 +1,6 @@
 // One node: power-on, compute, message, vote, setpoints. Each call tests the plan and the lengths; the steps under them are those of `memory` and `mailbox`.
+#![tactic(auto)]
+
 ghost use Rattle.std.specs.Prelude.{◌≡◌, length};
 ghost use Rattle.memory.specs.Size.{message_size};
 ghost use Rattle.node.specs.Answers.{length_checked, power_on_answer, compute_answer, vote_answer, message_place, setpoint_place};

@@ -1,4 +1,6 @@
 // What any number of digits show: eight at a time, then one by one.
+#![tactic(auto)]
+
 ghost use Rattle.std.specs.Prelude.{◌≡◌};
 ghost use Rattle.numeral.specs.Numeral.{numeral_of};
 ghost use Rattle.numeral.specs.Answers.{shown};

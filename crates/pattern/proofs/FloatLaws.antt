@@ -35,6 +35,7 @@ same-no-nan (fin s m i) e = tt
 
 or_left : (b c : Bool) → T b → T (b || c)
 or_left true c t = tt
+or_left false c t = elim t [ ]
 
 or_right : (b c : Bool) → T c → T (b || c)
 or_right true c t = tt

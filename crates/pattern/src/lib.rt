@@ -1,10 +1,12 @@
 // Arithmetic on patterns: a pattern is the 64 bits of an IEEE 754 binary64 value. Limit and Wind are in `limit`.
+#![tactic(auto)]
+
 ghost use Rattle.std.specs.Prelude.{◌≡◌};
 ghost use Rattle.pattern.specs.Constant.{is_finite, finite_unsigned};
 ghost use Rattle.pattern.specs.Pattern.{is_nan_of, value_of, pattern_of, sum_of, diff_of, scale_of};
 
 // Wind's two constants travel together.
-#[derive(Drop)]
+#[derive(Clone, Copy)]
 pub struct WindLaw {
     pub rate: f64,
     pub cap: f64,

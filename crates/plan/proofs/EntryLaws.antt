@@ -108,15 +108,15 @@ entry-is p k last f h e = rw (f (task_at p k).frame) (sym h ∙ e)
 -- ---- what every value of the Rattle type has
 
 -- an element of an array is a value of its type: `Is` is what owning a value tells (`c.good`)
-pub element : (R : RattleType) {X : Type 0} (f : X → R.Denot) (xs : List X) (us : List Val)
-    → shadow (each R.Denot R.own_val (map f xs) us)
-    → (k : ℕ) (d : X)
+pub element : (R : RattleType) (xs : List R.Denot) (us : List Val)
+    → shadow (each R.Denot R.own_val xs us)
+    → (k : ℕ) (d : R.Denot)
     → k < length xs
-    → (vs : List Val) × Is R (f (get_or xs k d)) vs
-element R f [] us s k d l = absurd (not-suc-le-zero l)
-element R f (x ∷ xs) [] s k d l = absurd s
-element R f (x ∷ xs) (u ∷ us) s zero d l = (u ∷ [], s.0)
-element R f (x ∷ xs) (u ∷ us) s (suc k) d l = element R f xs us s.1 k d (omega arith)
+    → (vs : List Val) × Is R (get_or xs k d) vs
+element R [] us s k d l = absurd (not-suc-le-zero l)
+element R (x ∷ xs) [] s k d l = absurd s
+element R (x ∷ xs) (u ∷ us) s zero d l = (u ∷ [], s.0)
+element R (x ∷ xs) (u ∷ us) s (suc k) d l = element R xs us s.1 k d (omega arith)
 
 -- the constants in a value of the type `Op` are of binary64
 pub op_fits : (o : Op) (vs : List Val) → Is OpType.the_row o vs → op_storable o ≡ true
@@ -129,29 +129,25 @@ op_fits (Limit a low high) vs g = and_both g.1.1.1.1.1.0.1 g.1.1.1.1.1.1.0.1
 op_fits (Wind a law) vs g = and_both g.1.1.1.1.1.0.1.1.0.1 g.1.1.1.1.1.0.1.1.1.0.1
 op_fits (Cam a) vs g = refl
 
--- how long an array in a struct is
-long : {X Y : Type 0} (f : X → Y) (xs : List X) (n : ℕ) → length (map f xs) ≡ n → length xs ≡ n
-long f xs n e = sym (length-map xs f) ∙ e
-
 -- the number in a cell fits
 cell-fits : (xs : List ℕ) (us : List Val)
-    → shadow (each ℕ (UInt w64).own_val (map (λ x. x) xs) us)
+    → shadow (each ℕ (UInt w64).own_val xs us)
     → length xs ≡ 32
     → all_below (λ c. ltb (get_or xs c 0) (2 ^ 64)) 32 ≡ true
 cell-fits xs us s e =
     all_below-all (λ c. ltb (get_or xs c 0) (2 ^ 64)) 32
-    (λ c l. lt-ltb (get_or xs c 0) (2 ^ 64) (element (UInt w64) (λ x. x) xs us s c 0 (omega arith)).1.1)
+    (λ c l. lt-ltb (get_or xs c 0) (2 ^ 64) (element (UInt w64) xs us s c 0 (omega arith)).1.1)
 
 -- and so do the constants of the tasks
 constants-fit : (xs : List Task) (us : List Val)
-    → shadow (each (TaskType.the_field).row.Denot (TaskType.the_field).row.own_val (map (TaskType.the_field).into xs) us)
+    → shadow (each (TaskType.the_row).Denot (TaskType.the_row).own_val xs us)
     → length xs ≡ 64
     → all_below (λ k. op_storable (get_or xs k unused_task).op) 64 ≡ true
 constants-fit xs us s e =
     all_below-all (λ k. op_storable (get_or xs k unused_task).op) 64
     (λ k l.
     op_fits (get_or xs k unused_task).op _
-    (element (TaskType.the_field).row (TaskType.the_field).into xs us s k unused_task (omega arith)).1.1.1.1.1.0)
+    (element TaskType.the_row xs us s k unused_task (omega arith)).1.1.1.1.1.0)
 
 pub plan-storable : (p : Plan) (vs : List Val) → Is PlanType.the_row p vs → storable p ≡ true
 unfolding storable
@@ -160,10 +156,10 @@ plan-storable p vs g =
     let tasks = g.1.1.1.1.1.1.1.1.1.0 in
     let voted = g.1.1.1.1.1.1.1.1.1.1.0 in
     let cells = g.1.1.1.1.1.1.1.1.1.1.1.0 in
-    let i = long (λ (x : ℕ). x) p.initial 32 initial.1.0.1 in
-    let t = long (TaskType.the_field).into p.tasks 64 tasks.1.0.1 in
-    let v = long (λ (x : Bool). x) p.voted 512 voted.1.0.1 in
-    let a = long (λ (x : ℕ). x) p.actuator_cell 8 cells.1.0.1 in
+    let i = initial.1.0.1 in
+    let t = tasks.1.0.1 in
+    let v = voted.1.0.1 in
+    let a = cells.1.0.1 in
     and_both
     (and_both (and_both (and_both (and_both (eq-eqb _ _ i) (eq-eqb _ _ t)) (eq-eqb _ _ v)) (eq-eqb _ _ a))
     (cell-fits p.initial initial.0 initial.1.1 i))

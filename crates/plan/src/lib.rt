@@ -1,4 +1,6 @@
 // The plan record, with the definitions of what is accepted and of the recovery period. `plan_form` and `plan_period` test a record.
+#![tactic(auto)]
+
 ghost use Rattle.std.specs.Prelude.{◌≡◌};
 ghost use Rattle.plan.specs.Sizes.{sizes_with};
 
@@ -7,7 +9,7 @@ use pattern::WindLaw;
 pub mod step;
 
 // A task is one of seven kinds with the constants of its own kind. The numbers are cells, but for Take's sensor.
-#[derive(Drop)]
+#[derive(Clone, Copy)]
 pub enum Op {
     Take(usize),
     Sum(usize, usize),
@@ -19,14 +21,14 @@ pub enum Op {
 }
 
 // A task line.
-#[derive(Drop)]
+#[derive(Clone, Copy)]
 pub struct Task {
     pub frame: usize,
     pub target: usize,
     pub op: Op,
 }
 
-#[derive(Drop)]
+#[derive(Clone, Copy)]
 pub struct Plan {
     pub nodes: usize,
     pub frames: usize,
@@ -60,7 +62,7 @@ impl Plan {
 }
 
 // The numbers of a plan, and its recovery period.
-#[derive(Drop)]
+#[derive(Clone, Copy)]
 pub struct Sizes {
     pub nodes: usize,
     pub frames: usize,

@@ -1,4 +1,6 @@
 // The program behind `./ragbasalt check`: reads plan.txt and prints the recovery period R, or the refusal as a run does.
+#![tactic(auto)]
+
 ghost use Rattle.std.specs.Prelude.{◌≡◌, ◌≤◌, length, take};
 ghost use Rattle.run_line.specs.Line.{refusal_size};
 ghost use Rattle.plan_check.specs.CheckListing.{check_listing};

@@ -1,4 +1,6 @@
 // The tests of a record's numbers, and of one task.
+#![tactic(auto)]
+
 ghost use Rattle.std.specs.Prelude.{◌≡◌, cond, ◌&&◌, leb};
 ghost use Rattle.plan.specs.Accepted.{header_ok, op_ok, task_ok, is_zero_take, is_unused};
 

@@ -1,4 +1,6 @@
 // The file plan.txt, for the programs that read it.
+#![tactic(auto)]
+
 ghost use Rattle.std.specs.Prelude.{◌≤◌, length};
 
 // More than the longest plan text, so that a longer file is seen to be too long.

@@ -1,4 +1,6 @@
 // Which records are of form: 7 but for the recovery period.
+#![tactic(auto)]
+
 ghost use Rattle.std.specs.Prelude.{◌≡◌, false, not, cond, ◌&&◌, ◌||◌, ◌<◌, get_or, eqb, ltb};
 ghost use Rattle.array.specs.Index.{all_below};
 ghost use Rattle.plan.specs.Limits.{most_frames, most_cells, most_actuators, most_tasks};

@@ -1,4 +1,6 @@
 // A line's numbers, and the rules on one line.
+#![tactic(auto)]
+
 ghost use Rattle.std.specs.Prelude.{◌≡◌, ◌+◌, eqb, ltb};
 ghost use Rattle.plan.specs.Limits.{most_tasks};
 ghost use Rattle.column.specs.Row.{numbers_shown};
@@ -12,7 +14,7 @@ use pattern::WindLaw;
 use plan::{Op, Plan, Task};
 
 // The first four columns are indices, the last two may be patterns.
-#[derive(Drop)]
+#[derive(Clone, Copy)]
 pub struct Line {
     pub kind: usize,
     pub second: usize,
@@ -67,7 +69,7 @@ impl Line {
     pub const TEXT: usize = Line::SIZE * Line::MOST;
 }
 
-#[derive(Drop)]
+#[derive(Clone, Copy)]
 pub enum LineRead {
     Whole(Line),
     Malformed,

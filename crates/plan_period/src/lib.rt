@@ -1,4 +1,6 @@
 // The recovery period, and the test of a record: which records an accepted text has.
+#![tactic(auto)]
+
 ghost use Rattle.std.specs.Prelude.{◌≡◌};
 ghost use Rattle.plan_period.specs.Answers.{checked, accepted_period, period_found};
 
@@ -7,7 +9,7 @@ use plan::Plan;
 
 pub mod step;
 
-#[derive(Drop)]
+#[derive(Clone, Copy)]
 pub struct PeriodFound {
     pub answer: Answer,
     pub period: usize,

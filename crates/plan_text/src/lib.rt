@@ -1,4 +1,6 @@
 // Reading a plan text. `plan_text_write` writes it.
+#![tactic(auto)]
+
 ghost use Rattle.std.specs.Prelude.{◌≡◌};
 ghost use Rattle.plan_text.specs.Answers.{read_answer};
 
@@ -7,14 +9,14 @@ use plan::Plan;
 
 pub mod step;
 
-#[derive(Drop)]
+#[derive(Clone, Copy)]
 pub struct PlanRead {
     pub answer: Answer,
     pub plan: Plan,
 }
 
 // What a call that writes a text gives: so many bytes stand at the front of its buffer.
-#[derive(Drop)]
+#[derive(Clone, Copy)]
 pub struct TextWritten {
     pub answer: Answer,
     pub count: usize,

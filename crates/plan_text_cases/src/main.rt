@@ -1,6 +1,8 @@
 // Reads the plan texts of the file `texts` and prints each one's refusal: number (width 4) and line (8). A text stands after its length in
 // a column of width 8 and a line feed. An accepted plan is also written back: where that gives other bytes than the text, the line column
 // shows 1 beside the number 0. tests/plan_texts/cases.rs makes the file, and what is to be printed, from document 01.
+#![tactic(auto)]
+
 use libc::STDOUT_FILENO;
 use numeral::Number;
 use plan::Plan;

@@ -1,4 +1,6 @@
 // Writing a plan text.
+#![tactic(auto)]
+
 ghost use Rattle.std.specs.Prelude.{◌≡◌, length};
 ghost use Rattle.plan_text_write.specs.Answers.{write_answer, write_place};
 

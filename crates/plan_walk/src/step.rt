@@ -8,7 +8,7 @@ ghost use Rattle.plan_walk.specs.Code.{read_word, after_task, with_votes, longer
 use plan::{Op, Plan, Task};
 
 // The first frames 0, 1, .. are begun in this order, one in each frame, and advanced frame by frame.
-#[derive(Drop)]
+#[derive(Clone, Copy)]
 pub struct Walk {
     // Up to it, everything is known from each first frame after longest + 1 frames; from it, not after longest.
     pub low: usize,

@@ -1,2 +1,4 @@
 // A plan as 64-bit words.
+#![tactic(auto)]
+
 pub mod step;

@@ -50,7 +50,7 @@ fn task(words: &[u64], k: usize) -> Line
     }
 }
 
-#[derive(Drop)]
+#[derive(Clone, Copy)]
 pub enum TaskRead {
     Whole(Task),
     Malformed,

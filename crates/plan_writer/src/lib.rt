@@ -1,2 +1,4 @@
 // Writing the text of a plan.
+#![tactic(auto)]
+
 pub mod step;

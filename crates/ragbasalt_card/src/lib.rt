@@ -1,5 +1,7 @@
 // The calls on a card, for programs in C and Rust: declared in include/ragbasalt.h. A plan and a card are their words (`plan_words`, `card_words`), the bins of a card its bytes, each one
 // array behind a pointer.
+#![tactic(auto)]
+
 ghost use Rattle.std.specs.Prelude.{◌≡◌, List, ℕ};
 ghost use Rattle.plan_words.specs.Words.{plan_of_words};
 ghost use Rattle.system_words.specs.Words.{code_of};

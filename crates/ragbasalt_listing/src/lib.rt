@@ -1,4 +1,6 @@
 // The calls on a run and its listing, for programs in C and Rust: declared in include/ragbasalt.h. A plan and a run are their words, each one array behind a pointer.
+#![tactic(auto)]
+
 ghost use Rattle.std.specs.Prelude.{◌≡◌, ◌/◌, ◌%◌, length};
 ghost use Rattle.plan.specs.Limits.{most_nodes};
 ghost use Rattle.listing_start.specs.Answers.{start_answer, refusal_written, refusal_place};

@@ -1,4 +1,6 @@
 // The calls on one node, for programs in C and Rust: declared in include/ragbasalt.h. A plan and a memory are their words (`plan_words`, `system_words`), each one array behind a pointer.
+#![tactic(auto)]
+
 ghost use Rattle.std.specs.Prelude.{◌≡◌, length};
 ghost use Rattle.memory.specs.Size.{message_size};
 ghost use Rattle.system.specs.Single.{single_answer, single_place_after};

@@ -1,4 +1,6 @@
 // The calls on plans, for programs in C and Rust: declared in include/ragbasalt.h. A plan is its words (`plan_words`), one array behind a pointer.
+#![tactic(auto)]
+
 ghost use Rattle.std.specs.Prelude.{◌≡◌, length};
 ghost use Rattle.plan.specs.Sizes.{sizes_of};
 ghost use Rattle.plan_grammar.specs.Written.{plan_text};

@@ -1,5 +1,7 @@
 // The calls on a whole system, for programs in C and Rust: declared in include/ragbasalt.h. A plan, a system and a memory are their words (`plan_words`, `system_words`), each one array
 // behind a pointer.
+#![tactic(auto)]
+
 ghost use Rattle.std.specs.Prelude.{◌≡◌};
 ghost use Rattle.system.specs.CountCalls.{working_answer, equal_answer};
 ghost use Rattle.plan_words.specs.Words.{plan_of_words};

@@ -1,2 +1,4 @@
 // The vote on the counters of all nodes on rows, for any fault bytes.
+#![tactic(auto)]
+
 pub mod step;

@@ -88,7 +88,7 @@ fn settle_counters(nodes: usize, mask: u64, counter: u16, counters: &mut [u16])
 }
 
 // The frame in which all good nodes vote, or no frame; and the least of their agreements on the counter.
-#[derive(Drop)]
+#[derive(Clone, Copy)]
 pub struct Polled {
     pub frame: usize,
     pub agreement: usize,

@@ -1,5 +1,7 @@
 // The run program: reads plan.txt and run.txt, and prints the listing. It moves bytes; what is printed, what is refused and when the listing ends is
 // decided in `lines` and `listing_start`.
+#![tactic(auto)]
+
 ghost use Rattle.std.specs.Prelude.{◌≡◌, true, ◌&&◌, ◌+◌, ◌*◌, ◌≤◌, eqb, length, take};
 ghost use Rattle.answer.specs.Refusal.{number_of};
 ghost use Rattle.plan.specs.Known.{period as period_of};
@@ -62,7 +64,7 @@ fn listed(
 }
 
 // How many bytes were read and printed, whether the file may have more lines, and the run after those read.
-#[derive(Drop)]
+#[derive(Clone, Copy)]
 struct Read {
     got: usize,
     printed: usize,

@@ -50,7 +50,7 @@ pub const REFUSAL: usize = LINE + 1;
 
 // Mask and fill; the patterns are in the array beside it. `Refused` comes first: the compiler takes a test against 0 to fail, so that a line's frame counts as
 // the usual way and the vote is inlined in it.
-#[derive(Drop)]
+#[derive(Clone, Copy)]
 pub enum LineRead {
     Refused,
     Whole(u64, u64),

@@ -1,4 +1,6 @@
 // The call on the single controller: its frame, with its setpoints.
+#![tactic(auto)]
+
 ghost use Rattle.std.specs.Prelude.{◌≡◌};
 ghost use Rattle.system.specs.Single.{single_answer, single_place_after};
 

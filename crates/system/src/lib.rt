@@ -1,4 +1,6 @@
 // The whole system: its record and its constructor. The definitions of a frame under faults, and demand 3 over them, are in specs/ and proofs/.
+#![tactic(auto)]
+
 ghost use Rattle.std.specs.Prelude.{◌≡◌};
 ghost use Rattle.system.specs.System.{system_power_on_answer};
 
@@ -9,27 +11,27 @@ use plan::Plan;
 pub mod step;
 
 // What is seen of the system from outside: the values that the plane last handed on.
-#[derive(Drop)]
+#[derive(Clone, Copy)]
 pub struct Seen {
     pub handed: [u64; System::ACTUATORS],
 }
 
 // What lies past the plan's nodes and actuators is neither read nor changed.
-#[derive(Drop)]
+#[derive(Clone, Copy)]
 pub struct System {
     pub memories: [Memory; System::NODES],
     pub good: [u16; System::NODES],
     pub seen: Seen,
 }
 
-#[derive(Drop)]
+#[derive(Clone, Copy)]
 pub struct Started {
     pub answer: Answer,
     pub system: System,
 }
 
 // What a frame call gives beside the setpoints in its place.
-#[derive(Drop)]
+#[derive(Clone, Copy)]
 pub struct Framed {
     pub answer: Answer,
     pub system: System,
@@ -37,7 +39,7 @@ pub struct Framed {
 }
 
 // A count of nodes.
-#[derive(Drop)]
+#[derive(Clone, Copy)]
 pub struct Counted {
     pub answer: Answer,
     pub count: usize,

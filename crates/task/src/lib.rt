@@ -1,2 +1,4 @@
 // What a task gives, and the task run on cells.
+#![tactic(auto)]
+
 pub mod step;

@@ -1,2 +1,4 @@
 // Little-endian words in byte slices.
+#![tactic(auto)]
+
 pub mod step;

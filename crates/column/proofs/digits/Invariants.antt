@@ -1,0 +1,16 @@
+use Rattle.std.proofs.Common.{◌≡◌, ◌-◌, ◌≤◌, length}
+use lib.Seq.{slice}
+use Rattle.column.specs.Column.{drop_blanks}
+use Rattle.column.proofs.digits.Given as goal
+
+abbrev pub invariant-loop-i : goal.invariant-loop-i
+invariant-loop-i l = (l.end ≤ length l.line) × (l.i ≤ l.end) × (drop_blanks (slice l.from l.to l.line) ≡ drop_blanks (slice l.i l.end l.line))
+
+abbrev pub decreases-loop-i : goal.decreases-loop-i
+decreases-loop-i l = l.end - l.i
+
+abbrev pub invariant-loop-i-2 : goal.invariant-loop-i-2
+invariant-loop-i-2 l = (l.end ≤ length l.line) × (drop_blanks (slice l.from l.to l.line) ≡ drop_blanks (slice l.i l.end l.line))
+
+abbrev pub decreases-loop-i-2 : goal.decreases-loop-i-2
+decreases-loop-i-2 l = l.end - l.i

@@ -1,0 +1,24 @@
+-- `memory::step::setpoints` meets its contract: what it lends is the plan's.
+use mathlib.Core.Path.{refl, ap, ◌∙◌}
+use Prim.Native.Nat.{ℕ}
+use native.Mathlib.Omega.{arith}
+use Rattle.array.specs.Index.{fill}
+use Rattle.memory.specs.Node.{setpoint}
+use Rattle.plan.proofs.AcceptedLaws.{shape-of-accepted}
+use borrow.Author.Rules.{rules}
+use Rattle.memory.proofs.step.setpoints.Goals as goal
+
+pub setpoints_with-requires : goal.setpoints_with-requires
+setpoints_with-requires c =
+    let q = c.requires in
+    let s = shape-of-accepted c.args.t1 q.0 in
+    (omega (arith, q.1, s.actuators-le), λ i l. omega (arith, s.actuator i (omega (arith, q.1)), s.cells-le))
+
+pub shape_of-out : goal.shape_of-out
+shape_of-out c = search rules
+
+pub returns : goal.returns
+returns c =
+    let a = c.args in
+    c.setpoints_with.ensures a.t1 a.t2 refl refl
+    ∙ ap (λ (n : ℕ). fill (setpoint a.t1 a.t2) n a.out.now) c.requires.1

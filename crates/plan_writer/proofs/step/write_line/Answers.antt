@@ -1,0 +1,26 @@
+-- `plan_writer::step::write_line` meets its contract: the six columns and the line feed lie one behind the other.
+use Prim.Native.Nat.{◌*◌}
+use Rattle.plan_writer.proofs.WriterLaws.{line-filled}
+use Rattle.plan_writer.proofs.step.write_line.Goals as goal
+
+pub shape_of-out : goal.shape_of-out
+shape_of-out c =
+    let l = c.args.l in
+    let w1 = c.put in
+    let w2 = c.put-2 in
+    let w3 = c.put-3 in
+    let w4 = c.put-4 in
+    let w5 = c.put-5 in
+    let w6 = c.put-6 in
+    (line-filled c.args.out.now (57 * c.args.i) l.kind l.second l.third l.fourth l.fifth l.sixth w1.new.0 w2.new.0 w3.new.0 w4.new.0 w5.new.0 w6.new.0 c.requires.0 w1.ensures w2.ensures w3.ensures w4.ensures w5.ensures w6.ensures).same
+
+pub returns : goal.returns
+returns c =
+    let l = c.args.l in
+    let w1 = c.put in
+    let w2 = c.put-2 in
+    let w3 = c.put-3 in
+    let w4 = c.put-4 in
+    let w5 = c.put-5 in
+    let w6 = c.put-6 in
+    (line-filled c.args.out.now (57 * c.args.i) l.kind l.second l.third l.fourth l.fifth l.sixth w1.new.0 w2.new.0 w3.new.0 w4.new.0 w5.new.0 w6.new.0 c.requires.0 w1.ensures w2.ensures w3.ensures w4.ensures w5.ensures w6.ensures).ended

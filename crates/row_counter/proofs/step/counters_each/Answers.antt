@@ -1,0 +1,61 @@
+-- `row_counter::step::counters_each` meets its contract: of the first i nodes the good ones have counted.
+use mathlib.Core.Path.{◌≡◌, sym, ap, ◌∙◌}
+use mathlib.Core.Bool.{not}
+use mathlib.Core.Logic.{⊎_elim}
+use mathlib.Core.Option.{Option}
+use Prim.Native.Nat.{ℕ, suc, ◌-◌}
+use native.Mathlib.Numerals.{add-one}
+use native.Mathlib.Omega.{arith}
+use lib.ListN.{get_or}
+use borrow.Author.Rules.{rules}
+use Rattle.array.specs.Index.{lesser, least}
+use Rattle.array.proofs.LeastLaws.{least-none, least-taken, least-left}
+use Rattle.ballot.specs.Majority.{agreement}
+use Rattle.ballot.proofs.PackedLaws.{packs-agreement}
+use Rattle.row_word.specs.Code.{is_good, heard_word}
+use Rattle.row_counter.proofs.PutLaws.{suc_apart, put-none, put-still, put-taken, put-left, put_all}
+use Rattle.row_counter.proofs.HeardLaws.{counted-own}
+use Rattle.row_counter.proofs.step.counters_each.Goals as goal
+
+pub loop-i-init : goal.loop-i-init
+loop-i-init c = (search rules, put-none suc suc_apart _ _ _, least-none _ _ _)
+
+pub majority-v-requires : goal.majority-v-requires
+majority-v-requires c = (c.heard-all.ensures.few, c.requires.0.nodes)
+
+pub agreement-requires : goal.agreement-requires
+agreement-requires c = omega (arith, c.heard-all.ensures.few, c.requires.0.nodes)
+
+pub loop-i-preserved : goal.loop-i-preserved
+loop-i-preserved c =
+    let l = c.loop-i in
+    let a = c.args in
+    let p = c.requires in
+    let bin : ℕ → ℕ → Option ℕ = heard_word a.s a.mask a.faults.now (λ j. get_or a.words.now j 0) 0 in
+    let count : ℕ → ℕ = λ k. agreement (bin k) a.s.nodes in
+    let still = ap (λ k. get_or l.counters k 0) (add-one l.i) ∙ put-still suc suc_apart _ _ a.counters.now l.i l.invariant.1 in
+    let good = ap not (sym c.is_bad.ensures) in
+    ⊎_elim
+    (λ w. (
+      search rules,
+      rw w.11 (put-taken suc suc_apart _ _ a.counters.now l.i l.invariant.1 (good ∙ w.0.taken) (add-one l.i) (omega (arith, p.3, p.0.nodes, c.loop-i-test.true)) (counted-own (bin l.i) a.s.nodes _ w.1.ensures w.4.ensures still w.6.ensures)),
+      w.12
+          ∙ w.10.ensures
+          ∙ least-taken (is_good a.mask) count a.low l.i l.invariant.2 (good ∙ w.0.taken)
+          (packs-agreement (bin l.i) a.s.nodes w.1.ensures w.4.ensures w.9.ensures),
+    ))
+    (λ w. (search rules, rw w.1 (put-left suc suc_apart _ _ a.counters.now l.i l.invariant.1 (good ∙ w.0.left)), w.2 ∙ least-left (is_good a.mask) count a.low l.i l.invariant.2 (good ∙ w.0.left)))
+    c.if-not-is_bad.branch
+
+pub shape_of-counters : goal.shape_of-counters
+shape_of-counters c = c.loop-i.invariant.1.size
+
+pub returns : goal.returns
+returns c =
+    let a = c.args in
+    let l = c.loop-i in
+    let e : l.i ≡ a.s.nodes = omega arith in (
+      put_all suc suc_apart _ _ a.counters.now l.i l.invariant.1 e,
+      l.invariant.2
+          ∙ ap (λ (k : ℕ). lesser a.low (least (is_good a.mask) (λ i. agreement (heard_word a.s a.mask a.faults.now (λ j. get_or a.words.now j 0) 0 i) a.s.nodes) k)) e,
+    )

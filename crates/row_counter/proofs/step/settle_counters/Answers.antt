@@ -1,0 +1,49 @@
+-- `row_counter::step::settle_counters` meets its contract: the first j nodes have the counter.
+use mathlib.Core.Path.{refl}
+use mathlib.Core.Logic.{⊎_elim}
+use Prim.Native.Nat.{suc, ◌-◌}
+use native.Mathlib.Omega.{arith}
+use native.Mathlib.Numerals.{add-one}
+use borrow.Author.Rules.{rules}
+use Rattle.row_word.specs.Code.{is_good}
+use Rattle.row_counter.proofs.PutLaws.{suc_apart, put-none, put-taken, put-left, put_all}
+use Rattle.row_word.proofs.HeardLaws.{good-if}
+use Rattle.row_counter.proofs.step.settle_counters.Goals as goal
+
+pub loop-j-init : goal.loop-j-init
+loop-j-init c = let a = c.args in (search rules, search rules, search rules, put-none suc suc_apart (is_good a.mask) (λ i. a.counter) a.counters.now)
+
+pub bounds-counters-j : goal.bounds-counters-j
+bounds-counters-j c =
+    let i = c.loop-j.invariant in
+    omega (arith, i.1, i.2, i.3.size, c.loop-j-test.true)
+
+pub loop-j-preserved : goal.loop-j-preserved
+loop-j-preserved c =
+    let a = c.args in
+    let l = c.loop-j in
+    let i = l.invariant in
+    ⊎_elim
+    (λ w. (
+      search rules,
+      i.1,
+      i.2,
+      rw w.1
+          (put-taken suc suc_apart (is_good a.mask) (λ k. a.counter) a.counters.now l.j i.3 (good-if a.mask l.j c.is_bad.ensures w.0.taken) (add-one l.j)
+          (omega (arith, i.1, i.2, c.loop-j-test.true)) refl),
+    ))
+    (λ w. (
+      search rules,
+      i.1,
+      i.2,
+      rw w.1 (put-left suc suc_apart (is_good a.mask) (λ k. a.counter) a.counters.now l.j i.3 (good-if a.mask l.j c.is_bad.ensures w.0.left)),
+    ))
+    c.if-not-is_bad.branch
+
+pub shape_of-counters : goal.shape_of-counters
+shape_of-counters c = c.loop-j.invariant.3.size
+
+pub returns : goal.returns
+returns c =
+    let a = c.args in
+    put_all suc suc_apart (is_good a.mask) (λ k. a.counter) a.counters.now c.loop-j.j c.loop-j.invariant.3 (omega arith)

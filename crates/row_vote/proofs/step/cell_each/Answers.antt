@@ -1,0 +1,100 @@
+-- `row_vote::step::cell_each` meets its contract: of the first i nodes those that vote on the cell have counted.
+use mathlib.Core.Path.{◌≡◌, ap, ◌∙◌}
+use mathlib.Core.Logic.{⊎_elim}
+use mathlib.Core.Bool.{Bool}
+use mathlib.Core.Option
+use mathlib.Core.Option.{Option}
+use Prim.Native.Nat.{ℕ, suc, ◌-◌}
+use native.Mathlib.Omega.{arith}
+use native.Mathlib.Numerals.{add-one}
+use lib.ListN.{get_or}
+use borrow.Author.Rules.{rules}
+use Rattle.array.specs.Index.{lesser, least}
+use Rattle.array.proofs.LeastLaws.{least-none, least-taken, least-left}
+use Rattle.ballot.specs.Majority.{majority, agreement}
+use Rattle.ballot.proofs.PackedLaws.{packs-agreement}
+use Rattle.rows.specs.Code.{word_place}
+use Rattle.row_counter.proofs.PutLaws.{put-none, put-still, put-taken, put-left, put_all}
+use Rattle.row_vote.specs.Code.{takes}
+use Rattle.row_word.specs.Code.{heard_word}
+use Rattle.row_vote.proofs.PutLaws.{column_apart}
+use Rattle.row_vote.proofs.HeardLaws.{counted-old, takes-if}
+use Rattle.row_vote.proofs.step.cell_each.Goals as goal
+
+pub loop-i-init : goal.loop-i-init
+loop-i-init c =
+    let q = c.requires in
+    (search rules, q.0.nodes, omega (arith, q.0.cells, q.2), q.3, put-none _ (column_apart c.args.c) _ _ _, least-none _ _ _)
+
+pub is_voted-requires : goal.is_voted-requires
+is_voted-requires c = (c.requires.4 c.loop-i.i c.loop-i-test.true, c.loop-i.invariant.2)
+
+pub heard-all-requires : goal.heard-all-requires
+heard-all-requires c = (c.requires.0, c.requires.1, c.loop-i-test.true, omega (arith, c.requires.2))
+
+pub majority-v-requires : goal.majority-v-requires
+majority-v-requires c = (c.heard-all.ensures.few, c.loop-i.invariant.1)
+
+pub word_place-at-requires : goal.word_place-at-requires
+word_place-at-requires c = (omega (arith, c.loop-i.invariant.1, c.loop-i-test.true), omega (arith, c.loop-i.invariant.2))
+
+pub bounds-cells-at : goal.bounds-cells-at
+bounds-cells-at c = omega (arith, c.word_place-at.ensures, c.loop-i.invariant.1, c.loop-i.invariant.2, c.loop-i.invariant.3, c.loop-i.invariant.4.size, c.loop-i-test.true)
+
+pub bounds-cells-at-then-is_bad-is_voted : goal.bounds-cells-at-then-is_bad-is_voted
+bounds-cells-at-then-is_bad-is_voted c = omega (arith, c.word_place-at.ensures, c.loop-i.invariant.1, c.loop-i.invariant.2, c.loop-i.invariant.3, c.loop-i.invariant.4.size, c.loop-i-test.true)
+
+pub agreement-requires : goal.agreement-requires
+agreement-requires c = omega (arith, c.heard-all.ensures.few, c.loop-i.invariant.1)
+
+pub loop-i-preserved : goal.loop-i-preserved
+loop-i-preserved c =
+    let l = c.loop-i in
+    let i = l.invariant in
+    let a = c.args in
+    let place : ℕ → ℕ = λ k. word_place (suc k) a.c in
+    let take : ℕ → Bool = takes a.voted.now a.mask (λ k. get_or a.frames.now k 0) a.c in
+    let bin : ℕ → ℕ → Option ℕ = λ k. heard_word a.s a.mask a.faults.now (λ j. get_or a.words.now j 0) (suc a.c) k in
+    let x : ℕ → ℕ = λ k. Option.get_or (majority (bin k) a.s.nodes) (get_or a.cells.now (place k) 0) in
+    let count : ℕ → ℕ = λ k. agreement (bin k) a.s.nodes in
+    ⊎_elim
+    (λ w.
+    let t = takes-if a.voted.now a.mask (λ k. get_or a.frames.now k 0) a.c l.i c.is_bad.ensures c.is_voted.ensures w.0.taken in
+    let packs = rw (add-one a.c) at w.1.ensures in
+    let at : w.5.result ≡ place l.i = w.5.ensures ∙ ap (λ (r : ℕ). word_place r a.c) (add-one l.i) in (
+      search rules,
+      i.1,
+      i.2,
+      i.3,
+      rw w.12
+          (put-taken place (column_apart a.c) take x a.cells.now l.i i.4
+          t
+          at
+          (omega (arith, w.5.ensures, i.1, i.2, i.3, c.loop-i-test.true))
+          (counted-old (bin l.i) a.s.nodes packs w.4.ensures
+          (ap (λ (k : ℕ). get_or l.cells k 0) at ∙ put-still place (column_apart a.c) take x a.cells.now l.i i.4)
+          w.7.ensures)),
+      w.13 ∙ w.11.ensures ∙ least-taken take count a.low l.i i.5 t (packs-agreement (bin l.i) a.s.nodes packs w.4.ensures w.10.ensures),
+    ))
+    (λ w.
+    let t = takes-if a.voted.now a.mask (λ k. get_or a.frames.now k 0) a.c l.i c.is_bad.ensures c.is_voted.ensures w.0.left in (
+      search rules,
+      i.1,
+      i.2,
+      i.3,
+      rw w.1 (put-left place (column_apart a.c) take x a.cells.now l.i i.4 t),
+      w.2 ∙ least-left take count a.low l.i i.5 t,
+    ))
+    c.if-is_bad-is_voted.branch
+
+pub shape_of-cells : goal.shape_of-cells
+shape_of-cells c = c.loop-i.invariant.4.size
+
+pub returns : goal.returns
+returns c =
+    let a = c.args in
+    let e : c.loop-i.i ≡ a.s.nodes = omega arith in (
+      put_all _ (column_apart a.c) _ _ _ c.loop-i.i c.loop-i.invariant.4 e,
+      c.loop-i.invariant.5
+          ∙ ap (λ (k : ℕ). lesser a.low (least (takes a.voted.now a.mask (λ i. get_or a.frames.now i 0) a.c) (λ i. agreement (heard_word a.s a.mask a.faults.now (λ j. get_or a.words.now j 0) (suc a.c) i) a.s.nodes) k)) e,
+    )

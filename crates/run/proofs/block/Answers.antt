@@ -1,0 +1,45 @@
+-- `run::block` meets its contract.
+use mathlib.Core.Path.{◌≡◌, ap, ◌∙◌, subst}
+use mathlib.Core.Bool.{Bool, ◌&&◌}
+use mathlib.Core.List.{List}
+use Prim.Native.Nat.{ℕ, ◌-◌, ◌*◌, ◌≤◌}
+use native.Mathlib.Omega.{arith}
+use lib.Dec.{eqb}
+use lib.ListN.{length, take, length-take}
+use Rattle.answer.specs.declared.Answer.{Answer}
+use Rattle.answer.specs.Refusal.{number_of}
+use Rattle.run_line.specs.Line.{run_line_size}
+use Rattle.lines.specs.declared.Run.{Run}
+use Rattle.lines.specs.Code.{block_lines, lines_answer}
+use Rattle.lines.specs.Blocks.{LaidBlock}
+use Rattle.run.proofs.block.Goals as goal
+
+part-few : (l : List ℕ) (k n m : ℕ) → length l ≡ n → n ≤ m → length (take k l) ≤ m
+part-few l k n m e f = omega (arith, length-take k l)
+
+-- what was read is the front of the input
+read-laid : (r : Run) (input out : List ℕ) (n count : ℕ) (left : Run) → LaidBlock r (take (n - 0) input) out count left → LaidBlock r (take n input) out count left
+read-laid r input out n count left h = let z : n - 0 ≡ n = omega arith in subst (λ (k : ℕ). LaidBlock r (take k input) out count left) z h
+
+read_more : (r : Run) (input : List ℕ) (n : ℕ) (x : Answer) {a : ℕ} (b : Bool) → a ≡ number_of x → x ≡ (lines_answer r (take (n - 0) input)).answer → (eqb a 0 && b) ≡ (eqb (number_of (lines_answer r (take n input)).answer) 0 && b)
+read_more r input n x {a} b e f =
+    let z : n - 0 ≡ n = omega arith in
+    ap (λ (k : ℕ). eqb k 0 && b) (e ∙ ap number_of f ∙ ap (λ (k : ℕ). number_of (lines_answer r (take k input)).answer) z)
+
+pub listed-r-requires : goal.listed-r-requires
+listed-r-requires c =
+    let q = c.requires in
+    let a = c.args in
+    (q.0, q.1, q.2, part-few c.read_full-got.new.1.0 (c.read_full-got.result - 0) (length a.input.now) (block_lines * run_line_size a.run.plan.sensors) c.read_full-got.auto.1.0 q.3, q.4, q.5, q.6, q.7)
+
+pub returns : goal.returns
+returns c = (
+  c.read_full-got.auto.1.0,
+  c.read_full-got.ensures.0,
+  read-laid c.args.run c.read_full-got.new.1.0 _ c.read_full-got.result _ _ c.listed-r.ensures.1,
+  read_more c.args.run c.read_full-got.new.1.0 c.read_full-got.result c.listed-r.result.answer _ c.number.ensures c.listed-r.ensures.0,
+  c.listed-r.ensures.2,
+  c.listed-r.auto.1.1.1.0,
+  c.listed-r.ensures.3,
+  c.listed-r.auto.1.1.1.1.0,
+)
