@@ -6,9 +6,7 @@ use Rattle.column.specs.Column.{drop_blanks}
 use Rattle.column.proofs.ReadingLaws.{blanks-skip, blanks-stop, within-line, slice-behind, slice-part}
 use Rattle.column.proofs.BlankLaws.{run-le, word-skip, word-stop}
 use Rattle.column.proofs.digits.Goals as goal
-
-pub UNKNOWN-slice-bounds-result-end : goal.UNKNOWN-slice-bounds-result-end
-UNKNOWN-slice-bounds-result-end c = ⊎_elim (λ h. search rules) (λ h. search rules) c.if-to-len.branch
+use Rattle.column.proofs.digits.Goals.{else-to-len, then-to-len}
 
 pub returns-then-end-from : goal.returns-then-end-from
 unfolding drop_blanks
@@ -16,7 +14,7 @@ returns-then-end-from c =
     let a = c.args in
     let s = a.line.now in
     let e = c.if-to-len.end in
-    let w = within-line s a.from a.to e (⊎_elim (λ h. inl (h.0.taken, h.1)) (λ h. inr (h.0.left, h.1)) c.if-to-len.branch) in
+    let w = within-line s a.from a.to e (elim c.if-to-len.branch [ then-to-len h ↦ inl (h.if-to-len.true, h.end-is) | else-to-len h ↦ inr (h.if-to-len.false, h.end-is) ]) in
     slice-part s e e (search rules) w.0 ∙ slice_empty e s ∙ sym (ap drop_blanks (w.1 ∙ slice-behind s a.from e c.if-end-from.true))
 
 pub loop-i-init : goal.loop-i-init
@@ -24,7 +22,7 @@ loop-i-init c =
     let a = c.args in
     let s = a.line.now in
     let e = c.if-to-len.end in
-    let w = within-line s a.from a.to e (⊎_elim (λ h. inl (h.0.taken, h.1)) (λ h. inr (h.0.left, h.1)) c.if-to-len.branch) in
+    let w = within-line s a.from a.to e (elim c.if-to-len.branch [ then-to-len h ↦ inl (h.if-to-len.true, h.end-is) | else-to-len h ↦ inr (h.if-to-len.false, h.end-is) ]) in
     (w.0, search rules, ap drop_blanks w.1)
 
 pub overflow_add-i : goal.overflow_add-i
@@ -33,8 +31,8 @@ overflow_add-i c = omega (arith, c.blanks-i.ensures, run-le 4 c.read_le4-w.resul
 pub slice_bounds-result-count-then-w-ne-BLANKS : goal.slice_bounds-result-count-then-w-ne-BLANKS
 slice_bounds-result-count-then-w-ne-BLANKS c = omega (arith, c.blanks-i.ensures, run-le 4 c.read_le4-w.result)
 
-pub UNKNOWN-slice-bounds-result-start-2 : goal.UNKNOWN-slice-bounds-result-start-2
-UNKNOWN-slice-bounds-result-start-2 c = omega (arith, c.blanks-i.ensures, run-le 4 c.read_le4-w.result)
+pub slice_bounds-result-start-then-w-ne-BLANKS : goal.slice_bounds-result-start-then-w-ne-BLANKS
+slice_bounds-result-start-then-w-ne-BLANKS c = omega (arith, c.blanks-i.ensures, run-le 4 c.read_le4-w.result)
 
 pub returns-then-w-ne-BLANKS : goal.returns-then-w-ne-BLANKS
 unfolding word_of

@@ -12,7 +12,7 @@ returns-then-is_wide c = c.numeral.ensures ∙ ap numeral_of c.digits-d.ensures
 pub few-requires : goal.few-requires
 few-requires c =
     let a = c.args in
-    rw c.digits-d.ensures (digits-few a.line.now a.from a.to (c.is_IsWide.ensures.1 c.if-is_wide.false))
+    rw c.digits-d.ensures (digits-few a.line.now a.from a.to (c.is_wide.ensures.1 c.if-is_wide.false))
 
 pub returns : goal.returns
 unfolding number_shown

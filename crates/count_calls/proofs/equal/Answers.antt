@@ -20,7 +20,7 @@ returns-then-not-counts_ok c =
     let r = c.accepted_period-period in
     let a = c.args in
     let ok = accepted-of-period _ r.ensures c.if-period-eq0.false in
-    let tests = counts-are a.plan a.t2 0 (r.ensures ∙ accepted-period _ ok) c.counts_ok.ensures in
+    let tests = counts-are a.plan a.system 0 (r.ensures ∙ accepted-period _ ok) c.counts_ok.ensures in
     equal-counts _ _ _ ok (refused-test tests c.if-not-counts_ok.true)
 
 pub equal-count-requires : goal.equal-count-requires
@@ -33,6 +33,6 @@ returns c =
     let r = c.accepted_period-period in
     let a = c.args in
     let ok = accepted-of-period _ r.ensures c.if-period-eq0.false in
-    let tests = counts-are a.plan a.t2 0 (r.ensures ∙ accepted-period _ ok) c.counts_ok.ensures in
+    let tests = counts-are a.plan a.system 0 (r.ensures ∙ accepted-period _ ok) c.counts_ok.ensures in
     equal-done _ _ _ ok (passed-test tests c.if-not-counts_ok.false)
-    (c.equal-count.ensures ∙ equal_is a.plan a.t2 a.memory _ _ _ _ a.plan.nodes c.unpack.ensures.0 (c.unpack.ensures.1 ∙ c.put_memory.ensures.here) refl (shape-of-accepted _ ok).nodes-high)
+    (c.equal-count.ensures ∙ equal_is a.plan a.system a.memory _ _ _ _ a.plan.nodes c.unpack.ensures.0 (c.unpack.ensures.1 ∙ c.put_memory.ensures.here) refl (shape-of-accepted _ ok).nodes-high)

@@ -21,7 +21,7 @@ returns-then-not-mask_ok-counts_ok c =
     let r = c.accepted_period-period in
     let a = c.args in
     let ok = accepted-of-period _ r.ensures c.if-period-eq0.false in
-    let tests = mask-are a.plan a.t2 a.mask (r.ensures ∙ accepted-period _ ok) c.mask_ok.ensures c.counts_ok.ensures in
+    let tests = mask-are a.plan a.system a.mask (r.ensures ∙ accepted-period _ ok) c.mask_ok.ensures c.counts_ok.ensures in
     working-mask _ _ _ ok (refused-test tests c.if-not-mask_ok-counts_ok.true)
 
 pub working-count-requires : goal.working-count-requires
@@ -32,5 +32,5 @@ returns c =
     let r = c.accepted_period-period in
     let a = c.args in
     let ok = accepted-of-period _ r.ensures c.if-period-eq0.false in
-    let tests = mask-are a.plan a.t2 a.mask (r.ensures ∙ accepted-period _ ok) c.mask_ok.ensures c.counts_ok.ensures in
+    let tests = mask-are a.plan a.system a.mask (r.ensures ∙ accepted-period _ ok) c.mask_ok.ensures c.counts_ok.ensures in
     working-done _ _ _ ok (passed-test tests c.if-not-mask_ok-counts_ok.false) (r.ensures ∙ accepted-period _ ok) c.working-count.ensures

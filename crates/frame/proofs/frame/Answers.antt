@@ -21,7 +21,7 @@ returns-then-not-mask_ok-counts_ok c =
     let r = c.accepted_period-period in
     let a = c.args in
     let ok = accepted-of-period _ r.ensures c.if-period-eq0.false in
-    let tests = mask-are a.plan a.t2 a.mask (r.ensures ∙ accepted-period _ ok) c.mask_ok.ensures c.counts_ok.ensures in
+    let tests = mask-are a.plan a.system a.mask (r.ensures ∙ accepted-period _ ok) c.mask_ok.ensures c.counts_ok.ensures in
     frame-mask _ _ _ _ _ _ ok (refused-test tests c.if-not-mask_ok-counts_ok.true)
 
 pub lengths_ok-requires : goal.lengths_ok-requires
@@ -35,7 +35,7 @@ returns-then-not-lengths_ok c =
     let r = c.accepted_period-period in
     let a = c.args in
     let ok = accepted-of-period _ r.ensures c.if-period-eq0.false in
-    let tests = mask-are a.plan a.t2 a.mask (r.ensures ∙ accepted-period _ ok) c.mask_ok.ensures c.counts_ok.ensures in
+    let tests = mask-are a.plan a.system a.mask (r.ensures ∙ accepted-period _ ok) c.mask_ok.ensures c.counts_ok.ensures in
     frame-length _ _ _ _ _ _ ok (passed-test tests c.if-not-mask_ok-counts_ok.false) (refused-test c.lengths_ok.ensures c.if-not-lengths_ok.true)
 
 pub on_rows-stepped-requires : goal.on_rows-stepped-requires
@@ -50,5 +50,5 @@ returns c =
     let r = c.accepted_period-period in
     let a = c.args in
     let ok = accepted-of-period _ r.ensures c.if-period-eq0.false in
-    let tests = mask-are a.plan a.t2 a.mask (r.ensures ∙ accepted-period _ ok) c.mask_ok.ensures c.counts_ok.ensures in
+    let tests = mask-are a.plan a.system a.mask (r.ensures ∙ accepted-period _ ok) c.mask_ok.ensures c.counts_ok.ensures in
     frame-done _ _ _ _ _ _ ok (passed-test tests c.if-not-mask_ok-counts_ok.false) (passed-test c.lengths_ok.ensures c.if-not-lengths_ok.false) c.on_rows-stepped.ensures

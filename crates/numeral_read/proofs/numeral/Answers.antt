@@ -11,6 +11,7 @@ use Rattle.numeral.specs.Numeral.{is_digit, decimal}
 use Rattle.numeral.proofs.NumeralLaws.{digit-yes, digit-no, decimal-more, digits_more, numeral-too-long, numeral-other, numeral-large, numeral-whole, power-more, power_below}
 use Rattle.numeral_read.proofs.PartLaws.{part-value, part-malformed, digits-join, part-bound, power-eight, decimal-eight, eight-zeros, eight-first}
 use Rattle.numeral_read.proofs.numeral.Goals as goal
+use Rattle.numeral_read.proofs.numeral.Goals.{else-n-lt20, else-v-ge1844674407370955161, then-n-lt20, then-v-ge1844674407370955161+else-v-gt1844674407370955161+else-x-gt5}
 
 pub returns-then-n-lt8 : goal.returns-then-n-lt8
 returns-then-n-lt8 c = c.few.ensures
@@ -22,14 +23,14 @@ pub loop-i-init : goal.loop-i-init
 unfolding decimal all_below
 loop-i-init c = (
   refl,
-  ⊎_elim (λ h. search rules) (λ h. search rules) c.if-n-lt20.branch,
-  ⊎_elim (λ h. search rules) (λ h. search rules) c.if-n-lt20.branch,
-  ⊎_elim (λ h. search rules) (λ h. search rules) c.if-n-lt20.branch,
+  elim c.if-n-lt20.branch [ then-n-lt20 h ↦ search rules | else-n-lt20 h ↦ search rules ],
+  elim c.if-n-lt20.branch [ then-n-lt20 h ↦ search rules | else-n-lt20 h ↦ search rules ],
+  elim c.if-n-lt20.branch [ then-n-lt20 h ↦ search rules | else-n-lt20 h ↦ search rules ],
   omega arith,
   omega arith,
   refl,
   refl,
-  ⊎_elim (λ h. search rules) (λ h. search rules) c.if-n-lt20.branch,
+  elim c.if-n-lt20.branch [ then-n-lt20 h ↦ search rules | else-n-lt20 h ↦ search rules ],
   (λ p. absurd (omega (arith, p))),
 )
 
@@ -108,7 +109,7 @@ pub returns-then-n-lt20-2 : goal.returns-then-n-lt20-2
 returns-then-n-lt20-2 c =
     let d = c.args.d.now in
     let h = c.loop-i-2.invariant.0 in
-    let n : c.if-n-lt20.most ≡ length d = ⊎_elim (λ t. omega arith) (λ t. omega arith) c.if-n-lt20.branch in
+    let n : c.if-n-lt20.most ≡ length d = elim c.if-n-lt20.branch [ then-n-lt20 t ↦ omega arith | else-n-lt20 t ↦ omega arith ] in
     let e : c.loop-i-2.i ≡ length d = omega arith in
     numeral-whole d c.loop-i-2.i c.loop-i-2.v e h.6 h.7 (omega arith) (λ z. absurd (h.9 c.loop-i-2.invariant.1 z)) (omega (arith, power_below c.loop-i-2.v c.loop-i-2.i 19 h.5 (omega arith)))
 
@@ -135,10 +136,10 @@ returns-then-x-gt5 c =
     numeral-large d 20 (search rules) (omega (arith, decimal-more d 19, x.2))
 
 pub overflow_mul-result : goal.overflow_mul-result
-overflow_mul-result c = ⊎_elim (λ h. search rules) (λ h. search rules) c.if-v-ge1844674407370955161.branch
+overflow_mul-result c = elim c.if-v-ge1844674407370955161.branch [ then-v-ge1844674407370955161+else-v-gt1844674407370955161+else-x-gt5 h ↦ search rules | else-v-ge1844674407370955161 h ↦ search rules ]
 
 pub overflow_add-result : goal.overflow_add-result
-overflow_add-result c = ⊎_elim (λ h. search rules) (λ h. search rules) c.if-v-ge1844674407370955161.branch
+overflow_add-result c = elim c.if-v-ge1844674407370955161.branch [ then-v-ge1844674407370955161+else-v-gt1844674407370955161+else-x-gt5 h ↦ search rules | else-v-ge1844674407370955161 h ↦ search rules ]
 
 pub returns : goal.returns
 returns c =
@@ -152,4 +153,4 @@ returns c =
     (digits_more d 19 a x.0 x.1)
     (omega arith)
     (λ z. absurd (h.9 c.loop-i-2.invariant.1 z))
-    (⊎_elim (λ t. omega arith) (λ t. omega arith) c.if-v-ge1844674407370955161.branch)
+    (elim c.if-v-ge1844674407370955161.branch [ then-v-ge1844674407370955161+else-v-gt1844674407370955161+else-x-gt5 t ↦ omega arith | else-v-ge1844674407370955161 t ↦ omega arith ])

@@ -13,7 +13,7 @@ abbrev pub decreases-loop-i : goal.decreases-loop-i
 decreases-loop-i l = l.most - l.i
 
 abbrev pub invariant-loop-i-2 : goal.invariant-loop-i-2
-invariant-loop-i-2 l = invariant-loop l.d l.n l.most l.initial.v l.initial.i l.v l.i × (0 < l.i)
+invariant-loop-i-2 l = ((l.n ≡ length l.d) × (l.most ≤ l.n) × (l.n ≤ l.most + 1) × (l.most ≤ 19) × (l.i ≤ l.most) × (l.v < 10 ^ l.i) × (l.v ≡ decimal l.d l.i) × (all_below (λ k. is_digit (get_or l.d k 0)) l.i ≡ true) × (8 ≤ l.most) × (0 < l.i → get_or l.d 0 0 ≡ 48 → ⊥)) × (0 < l.i)
 
 abbrev pub decreases-loop-i-2 : goal.decreases-loop-i-2
 decreases-loop-i-2 l = l.most - l.i

@@ -5,7 +5,7 @@ use Rattle.card_step.proofs.PartsLaws.{memory-computed, memory-voted, memory_kep
 use Rattle.card_step.proofs.step.moved.Goals as goal
 
 pub returns-then-phase-eq-COMPUTE : goal.returns-then-phase-eq-COMPUTE
-returns-then-phase-eq-COMPUTE c = memory-computed c.args.t1 (record { state = c.args.state; bins = c.args.bins.now }) c.phase-phase.ensures _ c.if-phase-eq-COMPUTE.true c.compute.ensures
+returns-then-phase-eq-COMPUTE c = memory-computed c.args.plan (record { state = c.args.state; bins = c.args.bins.now }) c.phase-phase.ensures _ c.if-phase-eq-COMPUTE.true c.compute.ensures
 
 pub vote_with-requires : goal.vote_with-requires
 vote_with-requires c =
@@ -14,8 +14,8 @@ vote_with-requires c =
 
 pub returns-then-phase-eq-VOTE : goal.returns-then-phase-eq-VOTE
 returns-then-phase-eq-VOTE c =
-    memory-voted c.args.t1 (record { state = c.args.state; bins = c.args.bins.now }) c.phase-phase.ensures _ c.if-phase-eq-VOTE.true
-    (c.vote_with.ensures c.args.t1 refl refl refl refl)
+    memory-voted c.args.plan (record { state = c.args.state; bins = c.args.bins.now }) c.phase-phase.ensures _ c.if-phase-eq-VOTE.true
+    (c.vote_with.ensures c.args.plan refl refl refl refl)
 
 pub returns : goal.returns
-returns c = memory_kept c.args.t1 (record { state = c.args.state; bins = c.args.bins.now }) c.phase-phase.ensures _ c.if-phase-eq-COMPUTE.false c.if-phase-eq-VOTE.false
+returns c = memory_kept c.args.plan (record { state = c.args.state; bins = c.args.bins.now }) c.phase-phase.ensures _ c.if-phase-eq-COMPUTE.false c.if-phase-eq-VOTE.false

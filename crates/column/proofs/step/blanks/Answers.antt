@@ -10,4 +10,4 @@ overflow_cast-result c = omega (arith, trailing_le 32 c.wrapping_sub_u32.result)
 
 pub returns : goal.returns
 unfolding word_of
-returns c = trailing-blanks 4 c.wrapping_sub_u32.result c.args.w c.wrapping_sub_u32.ensures
+returns c = trailing-blanks 4 c.wrapping_sub_u32.result c.args.w c.wrapping_sub_u32.ensures.value

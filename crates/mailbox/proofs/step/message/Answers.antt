@@ -13,4 +13,4 @@ pub shape_of-out : goal.shape_of-out
 shape_of-out c = search rules
 
 pub returns : goal.returns
-returns c = c.message_with.ensures c.args.t1 refl refl refl
+returns c = c.message_with.ensures c.args.plan refl refl refl

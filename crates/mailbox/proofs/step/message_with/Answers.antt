@@ -16,7 +16,7 @@ loop-c-init c =
       c.requires.2,
       omega (arith, c.requires.1, c.frame_before-g.ensures.1),
       omega (arith, w.auto.0, c.requires.3),
-      sent-none a.out.now w.new.0 (sent_cell _ a.t4) a.t4.counter (omega (arith, c.requires.3)) w.ensures,
+      sent-none a.out.now w.new.0 (sent_cell _ a.memory) a.memory.counter (omega (arith, c.requires.3)) w.ensures,
     )
 
 pub loop-c-preserved : goal.loop-c-preserved
@@ -24,7 +24,7 @@ loop-c-preserved c =
     let l = c.loop-c in
     let w = c.write_be8 in
     let a = c.args in
-    let m = a.t4 in
+    let m = a.memory in
     let x = sent-cell (lent 0 a.frames a.cells 0 a.voted.now []) m l.c c.frame_before-g.ensures.0 (rw c.is_voted.ensures at c.sent-x.ensures) in (
       search rules,
       l.invariant.1,
@@ -42,5 +42,5 @@ returns c =
     let l = c.loop-c in
     let a = c.args in
     λ p v f n.
-    sent-all (sent_cell (lent 0 a.frames a.cells 0 a.voted.now []) a.t4) _ l.c _ l.out (omega arith) l.invariant.3 l.invariant.4
-    ∙ message-lent p a.t4 v f n
+    sent-all (sent_cell (lent 0 a.frames a.cells 0 a.voted.now []) a.memory) _ l.c _ l.out (omega arith) l.invariant.3 l.invariant.4
+    ∙ message-lent p a.memory v f n

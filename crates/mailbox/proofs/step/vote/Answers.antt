@@ -9,4 +9,4 @@ vote_with-requires c =
     (s.nodes-high, s.frames-pos, s.frames-le, s.cells-le, c.requires.1)
 
 pub returns : goal.returns
-returns c = c.vote_with.ensures c.args.t1 refl refl refl refl
+returns c = c.vote_with.ensures c.args.plan refl refl refl refl

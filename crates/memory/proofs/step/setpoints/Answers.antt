@@ -11,7 +11,7 @@ use Rattle.memory.proofs.step.setpoints.Goals as goal
 pub setpoints_with-requires : goal.setpoints_with-requires
 setpoints_with-requires c =
     let q = c.requires in
-    let s = shape-of-accepted c.args.t1 q.0 in
+    let s = shape-of-accepted c.args.plan q.0 in
     (omega (arith, q.1, s.actuators-le), λ i l. omega (arith, s.actuator i (omega (arith, q.1)), s.cells-le))
 
 pub shape_of-out : goal.shape_of-out
@@ -20,5 +20,5 @@ shape_of-out c = search rules
 pub returns : goal.returns
 returns c =
     let a = c.args in
-    c.setpoints_with.ensures a.t1 a.t2 refl refl
-    ∙ ap (λ (n : ℕ). fill (setpoint a.t1 a.t2) n a.out.now) c.requires.1
+    c.setpoints_with.ensures a.plan a.memory refl refl
+    ∙ ap (λ (n : ℕ). fill (setpoint a.plan a.memory) n a.out.now) c.requires.1

@@ -5,5 +5,5 @@ use Rattle.plan_words.proofs.step.put.Goals as goal
 
 pub returns : goal.returns
 returns c =
-    plan-put c.args.t1 (shape-of-accepted _ c.requires.0) c.args.words.now c.requires.1 _ _ _ _ _
+    plan-put c.args.plan (shape-of-accepted _ c.requires.0) c.args.words.now c.requires.1 _ _ _ _ _
     c.put_counts.ensures c.copy.ensures c.put_tasks.ensures c.put_votes.ensures c.put_actuators.ensures

@@ -27,7 +27,7 @@ pub loop-r-init : goal.loop-r-init
 loop-r-init c =
     let q = c.requires in
     let s = shape-of-accepted _ q.0 in
-    (omega (arith, q.2, s.nodes-low), omega (arith, s.nodes-high), search rules, skips-none c.args.t1 _, q.5, q.6, through-first _ _ _ _ _, omega arith)
+    (omega (arith, q.2, s.nodes-low), omega (arith, s.nodes-high), search rules, skips-none c.args.plan _, q.5, q.6, through-first _ _ _ _ _, omega arith)
 
 pub bounds-counters-r : goal.bounds-counters-r
 bounds-counters-r c = omega (arith, c.loop-r.invariant.1, c.loop-r.invariant.4, c.loop-r-test.true)
@@ -41,7 +41,7 @@ nonzero_rem-g c = (shape-of-accepted _ c.requires.0).frames-pos
 pub loop-k-init : goal.loop-k-init
 loop-k-init c =
     let i = c.loop-r.invariant in
-    let p = c.args.t1 in
+    let p = c.args.plan in
     let l = c.loop-r in
     let g = get_or l.counters l.r 0 % p.frames in
     let h = skips-again l.last g c.begin-skipped.ensures p i.3 in
@@ -53,7 +53,7 @@ pub run_task_in-requires : goal.run_task_in-requires
 run_task_in-requires c =
     let a = c.args in
     let q = c.requires in
-    let s = shape-of-accepted a.t1 q.0 in
+    let s = shape-of-accepted a.plan q.0 in
     let l = c.loop-k in
     let i = l.invariant in
     let here = c.loop-k-test.true in
@@ -61,7 +61,7 @@ run_task_in-requires c =
     let z : most_cells * r + most_cells - most_cells * r ≡ most_cells = omega arith in (
       part_length l.cells (most_cells * r) (most_cells * r + most_cells - most_cells * r) most_cells z (omega (arith, i.6, i.10)),
       omega (arith, s.target l.k here, s.cells-le),
-      op-in a.t1 s l.k here q.3,
+      op-in a.plan s l.k here q.3,
       q.7,
     )
 
@@ -69,7 +69,7 @@ pub loop-k-preserved : goal.loop-k-preserved
 loop-k-preserved c =
     let l = c.loop-k in
     let i = l.invariant in
-    let p = c.args.t1 in
+    let p = c.args.plan in
     let s = shape-of-accepted p c.requires.0 in
     let r : ℕ = c.loop-r.r in
     let z : most_cells * r + most_cells - most_cells * r ≡ most_cells = omega arith in
@@ -117,7 +117,7 @@ loop-r-preserved c =
     let i = l.invariant in
     let m = c.loop-k in
     let a = c.args in
-    let p = a.t1 in
+    let p = a.plan in
     let s = shape-of-accepted p c.requires.0 in
     let few : l.r < length l.counters = omega (arith, i.1, i.4, c.loop-r-test.true) in (
       search rules,
@@ -138,13 +138,13 @@ pub close-requires : goal.close-requires
 close-requires c =
     let a = c.args in
     let q = c.requires in
-    let z = sizes-small a.t1 q.0 a.s q.1 in
-    (z.0, z.1, z.2, z.3, z.4, q.4, c.loop-r.invariant.4, c.loop-r.invariant.5, table_fits a.t1 q.0 a.s q.1)
+    let z = sizes-small a.plan q.0 a.s q.1 in
+    (z.0, z.1, z.2, z.3, z.4, q.4, c.loop-r.invariant.4, c.loop-r.invariant.5, table_fits a.plan q.0 a.s q.1)
 
 pub returns : goal.returns
 returns c =
     let a = c.args in
     let q = c.requires in
     let k = c.close in
-    framed a.t1 q.0 a.s q.1 a.first q.2 a.sensors.now a.mask a.faults.now a.counters.now a.cells.now c.loop-r.counters c.loop-r.cells _ _ a.good.now _ a.seen.now _ _
+    framed a.plan q.0 a.s q.1 a.first q.2 a.sensors.now a.mask a.faults.now a.counters.now a.cells.now c.loop-r.counters c.loop-r.cells _ _ a.good.now _ a.seen.now _ _
     (through-all _ _ _ c.loop-r.invariant.6 (omega arith)) k.ensures.3 k.ensures.0 k.ensures.1 k.ensures.2 k.ensures.4
