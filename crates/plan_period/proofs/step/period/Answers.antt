@@ -1,5 +1,6 @@
 use mathlib.Core.Path.{◌≡◌, sym, ap, ◌∙◌, subst}
-use mathlib.Core.Logic.{⊎_elim}
+use Rattle.plan.specs.declared.Plan.{Plan}
+use Rattle.plan_walk.specs.declared.step.Walk.{Walk}
 use mathlib.Core.List.{List}
 use Prim.Native.Nat.{ℕ, ◌+◌, ◌-◌, ◌^◌, ◌≤◌, ◌<◌, min}
 use native.Mathlib.Nat.{mod-lt, lt_of_lt_of_le}
@@ -9,74 +10,74 @@ use Rattle.plan_walk.specs.Code.{after_task}
 use Rattle.plan.proofs.AcceptedLaws.{Shape, shape_of, bound-small}
 use Rattle.plan_walk.proofs.WalkedLaws.{Walked, next-short, walked_start, walked-task, walked_next, walked-wrap, walked-found, walked_none}
 use Rattle.plan_period.proofs.step.period.Goals as goal
-
-shape : (l : tie.At-loop invariant-loop decreases-loop) → Shape l.args.t1
-shape l = shape_of l.args.t1 l.requires
+use Rattle.plan_period.proofs.step.period.Goals.{then-i-count+else-t-w, else-i-count}
 
 -- no task of the frame is left
 rest :
-    (c : tie.After-closed invariant-loop decreases-loop) (j : ℕ) →
-    c.loop-w.i ≤ j →
-    j < c.args.t1.task_count →
-    (task_at c.args.t1 j).frame ≡ c.loop-w.w.frame →
+    (p : Plan) (ws : List ℕ) (w : Walk) (i : ℕ) →
+    Shape p →
+    Walked p ws w i →
+    ((i < p.task_count → (task_at p i).frame ≡ w.frame → ⊥)) →
+    (j : ℕ) →
+    i ≤ j →
+    j < p.task_count →
+    (task_at p j).frame ≡ w.frame →
     ⊥
-rest c j m k e =
-    let p = c.args.t1 in
-    let h = c.loop-w.invariant.1 in
-    let o : (task_at p c.loop-w.i).frame ≤ (task_at p j).frame = (shape c).ordered c.loop-w.i j m k in
-    let w : c.loop-w.w.frame ≤ (task_at p c.loop-w.i).frame = h.left c.loop-w.i (omega arith) (omega arith) in
-    ⊎_elim (λ x. x.4.left (omega arith)) (λ y. omega (arith, y.left)) c.if-i-count.branch
+rest p ws w i s h b j m k e =
+    let o : (task_at p i).frame ≤ (task_at p j).frame = s.ordered i j m k in
+    let l : w.frame ≤ (task_at p i).frame = h.left i (omega arith) (omega arith) in
+    b (omega arith) (omega arith)
 
 pub overflow_mul-bound : goal.overflow_mul-bound
-overflow_mul-bound c = omega (arith, bound-small c.args.t1 (shape_of c.args.t1 c.requires))
+overflow_mul-bound c = omega (arith, bound-small c.args.p (shape_of c.args.p c.requires))
 
 pub overflow_add-bound : goal.overflow_add-bound
-overflow_add-bound c = let s = shape_of c.args.t1 c.requires in omega (arith, bound-small c.args.t1 s, s.frames-le)
+overflow_add-bound c = let s = shape_of c.args.p c.requires in omega (arith, bound-small c.args.p s, s.frames-le)
 
 pub loop-w-init : goal.loop-w-init
-loop-w-init c = (omega arith, walked_start c.args.t1 (shape_of c.args.t1 c.requires))
+loop-w-init c = (omega arith, walked_start c.args.p (shape_of c.args.p c.requires))
 
 pub offset_bounds-p-i : goal.offset_bounds-p-i
-offset_bounds-p-i c = let p = c.args.t1 in let s = shape c in let b = bound-small p s in omega (arith, s.tasks-le, c.if-i-count.true)
+offset_bounds-p-i c = let p = c.args.p in let s = shape_of p c.requires in let b = bound-small p s in omega (arith, s.tasks-le, c.if-i-count.true)
 
 pub bounds-p-i : goal.bounds-p-i
-bounds-p-i c = let p = c.args.t1 in let s = shape c in let b = bound-small p s in omega (arith, s.tasks-le, c.if-i-count.true)
+bounds-p-i c = let p = c.args.p in let s = shape_of p c.requires in let b = bound-small p s in omega (arith, s.tasks-le, c.if-i-count.true)
 
 pub ones-requires : goal.ones-requires
-ones-requires c = let p = c.args.t1 in let s = shape c in let b = bound-small p s in omega (arith, c.least.ensures, s.frames-le)
+ones-requires c = let p = c.args.p in let s = shape_of p c.requires in let b = bound-small p s in omega (arith, c.least.ensures, s.frames-le)
 
 pub put_known-requires : goal.put_known-requires
-put_known-requires c = let p = c.args.t1 in let s = shape c in let b = bound-small p s in lt_of_lt_of_le (s.target c.loop-w.i c.if-i-count.true) s.cells-le
+put_known-requires c = let p = c.args.p in let s = shape_of p c.requires in let b = bound-small p s in lt_of_lt_of_le (s.target c.loop-w.i c.if-i-count.true) s.cells-le
 
 pub overflow_add-i : goal.overflow_add-i
-overflow_add-i c = let p = c.args.t1 in let s = shape c in let b = bound-small p s in omega (arith, s.tasks-le, c.if-i-count.true)
+overflow_add-i c = let p = c.args.p in let s = shape_of p c.requires in let b = bound-small p s in omega (arith, s.tasks-le, c.if-i-count.true)
 
 pub loop-w-smaller-then-t-w : goal.loop-w-smaller-then-t-w
-loop-w-smaller-then-t-w c = let p = c.args.t1 in let s = shape c in let b = bound-small p s in omega (arith, s.tasks-le, c.if-i-count.true)
+loop-w-smaller-then-t-w c = let p = c.args.p in let s = shape_of p c.requires in let b = bound-small p s in omega (arith, s.tasks-le, c.if-i-count.true)
 
 pub loop-w-preserved-then-t-w : goal.loop-w-preserved-then-t-w
-loop-w-preserved-then-t-w c = let p = c.args.t1 in let s = shape c in let b = bound-small p s in let e : c.put_known.new.0 ≡ after_task (2 ^ min c.loop-w.w.time p.frames - 1) c.loop-w.words (task_at p c.loop-w.i) = c.put_known.ensures ∙ ap (λ (x : ℕ). after_task x c.loop-w.words (task_at p c.loop-w.i)) (c.ones.ensures ∙ ap (λ (n : ℕ). 2 ^ n - 1) c.least.ensures) in (c.loop-w.invariant.0, subst (λ (ws : List ℕ). Walked p ws c.loop-w.w (c.loop-w.i + 1)) (sym e) (walked-task p s c.loop-w.words c.loop-w.w c.loop-w.i c.loop-w.invariant.1 c.if-i-count.true c.if-t-w.true))
+loop-w-preserved-then-t-w c = let p = c.args.p in let s = shape_of p c.requires in let b = bound-small p s in let e : c.put_known.new.words ≡ after_task (2 ^ min c.loop-w.w.time p.frames - 1) c.loop-w.words (task_at p c.loop-w.i) = c.put_known.ensures ∙ ap (λ (x : ℕ). after_task x c.loop-w.words (task_at p c.loop-w.i)) (c.ones.ensures ∙ ap (λ (n : ℕ). 2 ^ n - 1) c.least.ensures) in (c.loop-w.invariant.0, subst (λ (ws : List ℕ). Walked p ws c.loop-w.w (c.loop-w.i + 1)) (sym e) (walked-task p s c.loop-w.words c.loop-w.w c.loop-w.i c.loop-w.invariant.1 c.if-i-count.true c.if-t-w.true))
 
 pub closed-w-requires : goal.closed-w-requires
-closed-w-requires c = let p = c.args.t1 in let s = shape c in let b = bound-small p s in let h = c.loop-w.invariant.1 in (rw h.now (mod-lt c.loop-w.w.time s.frames-pos), s.frames-le, s.cells-le, omega (arith, h.low), omega (arith, s.frames-le, c.loop-w.invariant.0))
+closed-w-requires c = let p = c.args.p in let s = shape_of p c.requires in let b = bound-small p s in let h = c.loop-w.invariant.1 in (rw h.now (mod-lt c.loop-w.w.time s.frames-pos), s.frames-le, s.cells-le, omega (arith, h.low), omega (arith, s.frames-le, c.loop-w.invariant.0))
 
 pub overflow_add-result : goal.overflow_add-result
-overflow_add-result c = let p = c.args.t1 in let s = shape c in let b = bound-small p s in let h = c.loop-w.invariant.1 in omega (arith, next-short p s c.loop-w.words c.loop-w.w c.closed-w.new.1.0 c.closed-w.result c.loop-w.i h (rest c) c.closed-w.ensures, c.closed-w.ensures.time, c.loop-w.invariant.0, s.frames-le)
+overflow_add-result c = let p = c.args.p in let s = shape_of p c.requires in let b = bound-small p s in let h = c.loop-w.invariant.1 in omega (arith, next-short p s c.loop-w.words c.loop-w.w c.closed-w.new.words c.closed-w.result c.loop-w.i h (rest p c.loop-w.words c.loop-w.w c.loop-w.i s h (elim c.if-i-count.branch [ then-i-count+else-t-w w ↦ λ _. w.if-t-w.false | else-i-count w ↦ λ k. absurd (omega arith) ])) c.closed-w.ensures, c.closed-w.ensures.time, c.loop-w.invariant.0, s.frames-le)
 
 pub returns-then-w-frames : goal.returns-then-w-frames
-returns-then-w-frames c = let p = c.args.t1 in let s = shape c in let b = bound-small p s in let h = c.loop-w.invariant.1 in sym (walked-found p s c.loop-w.words c.loop-w.w c.closed-w.new.1.0 c.closed-w.result c.loop-w.i h (rest c) c.closed-w.ensures c.if-w-frames.true)
+returns-then-w-frames c = let p = c.args.p in let s = shape_of p c.requires in let b = bound-small p s in let h = c.loop-w.invariant.1 in sym (walked-found p s c.loop-w.words c.loop-w.w c.closed-w.new.words c.closed-w.result c.loop-w.i h (rest p c.loop-w.words c.loop-w.w c.loop-w.i s h (elim c.if-i-count.branch [ then-i-count+else-t-w w ↦ λ _. w.if-t-w.false | else-i-count w ↦ λ k. absurd (omega arith) ])) c.closed-w.ensures c.if-w-frames.true)
 
 pub loop-w-smaller-then-w-eq0 : goal.loop-w-smaller-then-w-eq0
-loop-w-smaller-then-w-eq0 c = let p = c.args.t1 in let s = shape c in let b = bound-small p s in let h = c.loop-w.invariant.1 in omega (arith, c.closed-w.ensures.time, c.loop-w-test.true, s.tasks-le)
+loop-w-smaller-then-w-eq0 c = let p = c.args.p in let s = shape_of p c.requires in let b = bound-small p s in let h = c.loop-w.invariant.1 in omega (arith, c.closed-w.ensures.time, c.loop-w-test.true, s.tasks-le)
 
 pub loop-w-preserved-then-w-eq0 : goal.loop-w-preserved-then-w-eq0
-loop-w-preserved-then-w-eq0 c = let p = c.args.t1 in let s = shape c in let b = bound-small p s in let h = c.loop-w.invariant.1 in (omega (arith, c.closed-w.ensures.time, c.loop-w-test.true), walked-wrap p s c.loop-w.words c.loop-w.w c.closed-w.new.1.0 c.closed-w.result c.loop-w.i h (rest c) c.closed-w.ensures (omega (arith, c.closed-w.ensures.to, c.if-w-frames.false)) c.if-w-eq0.true)
+loop-w-preserved-then-w-eq0 c = let p = c.args.p in let s = shape_of p c.requires in let b = bound-small p s in let h = c.loop-w.invariant.1 in (omega (arith, c.closed-w.ensures.time, c.loop-w-test.true), walked-wrap p s c.loop-w.words c.loop-w.w c.closed-w.new.words c.closed-w.result c.loop-w.i h (rest p c.loop-w.words c.loop-w.w c.loop-w.i s h (elim c.if-i-count.branch [ then-i-count+else-t-w w ↦ λ _. w.if-t-w.false | else-i-count w ↦ λ k. absurd (omega arith) ])) c.closed-w.ensures (omega (arith, c.closed-w.ensures.to, c.if-w-frames.false)) c.if-w-eq0.true)
 
 pub loop-w-smaller : goal.loop-w-smaller
-loop-w-smaller c = let p = c.args.t1 in let s = shape c in let b = bound-small p s in let h = c.loop-w.invariant.1 in omega (arith, c.closed-w.ensures.time, c.loop-w-test.true, s.tasks-le, h.next)
+loop-w-smaller c = let p = c.args.p in let s = shape_of p c.requires in let b = bound-small p s in let h = c.loop-w.invariant.1 in omega (arith, c.closed-w.ensures.time, c.loop-w-test.true, s.tasks-le, h.next)
 
 pub loop-w-preserved : goal.loop-w-preserved
-loop-w-preserved c = let p = c.args.t1 in let s = shape c in let b = bound-small p s in let h = c.loop-w.invariant.1 in (omega (arith, c.closed-w.ensures.time, c.loop-w-test.true), walked_next p s c.loop-w.words c.loop-w.w c.closed-w.new.1.0 c.closed-w.result c.loop-w.i h (rest c) c.closed-w.ensures (omega (arith, c.closed-w.ensures.to, c.if-w-frames.false)) c.if-w-eq0.false)
+loop-w-preserved c = let p = c.args.p in let s = shape_of p c.requires in let b = bound-small p s in let h = c.loop-w.invariant.1 in (omega (arith, c.closed-w.ensures.time, c.loop-w-test.true), walked_next p s c.loop-w.words c.loop-w.w c.closed-w.new.words c.closed-w.result c.loop-w.i h (rest p c.loop-w.words c.loop-w.w c.loop-w.i s h (elim c.if-i-count.branch [ then-i-count+else-t-w w ↦ λ _. w.if-t-w.false | else-i-count w ↦ λ k. absurd (omega arith) ])) c.closed-w.ensures (omega (arith, c.closed-w.ensures.to, c.if-w-frames.false)) c.if-w-eq0.false)
 
 pub returns : goal.returns
-returns c = let p = c.args.t1 in let s = shape c in let b = bound-small p s in sym (walked_none p s c.loop-w.words c.loop-w.w c.loop-w.i c.loop-w.invariant.1 c.loop-w-test.false)
+returns c = let p = c.args.p in let s = shape_of p c.requires in let b = bound-small p s in sym (walked_none p s c.loop-w.words c.loop-w.w c.loop-w.i c.loop-w.invariant.1 c.loop-w-test.false)
