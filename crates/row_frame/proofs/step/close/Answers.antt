@@ -9,4 +9,4 @@ hand_on-requires c =
     (q.0, q.5, search rules, q.8)
 
 pub returns : goal.returns
-returns c = (through-then c.vote-agreement.ensures.0 c.spoil.ensures, c.hand_on.ensures, c.counts.ensures, λ i. (c.type_inv.cells i).fits, c.vote-agreement.ensures.1)
+returns c = (through-then c.vote-agreement.ensures.0 c.spoil.ensures, c.hand_on.ensures, c.counts.ensures, λ i. (c.slice_known-2-1.given i).fits, c.vote-agreement.ensures.1)

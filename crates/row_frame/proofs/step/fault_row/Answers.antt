@@ -11,7 +11,7 @@ pub loop-c-init : goal.loop-c-init
 loop-c-init c = (search rules, search rules, sym (fill_none _ _))
 
 pub loop-c-preserved : goal.loop-c-preserved
-loop-c-preserved c = (search rules, search rules, stored_next _ _ _ c.loop-c.invariant.2 (c.read_be8.ensures ∙ rw c.Cell-at.ensures))
+loop-c-preserved c = (search rules, search rules, stored_next _ _ _ c.loop-c.invariant.2 (c.read_be8.ensures ∙ rw c.cell_at.ensures))
 
 pub returns : goal.returns
 returns c = stored-all _ _ _ c.loop-c.invariant.2 (omega arith)

@@ -19,6 +19,7 @@ use Rattle.rows.proofs.RowLaws.{lent_length, lent_other, through-next, through-a
 use Rattle.row_frame.specs.Code.{ran}
 use Rattle.row_frame.proofs.FrameLaws.{sizes-small, table_fits, through-first, ran-stored, framed}
 use Rattle.row_frame.proofs.step.frame.Goals as goal
+use Rattle.row_frame.proofs.step.frame.Goals.{else-frame-g, else-loop-k-test, then-frame-g, then-loop-k-test+then-g-frame}
 
 pub overflow_add-rows : goal.overflow_add-rows
 overflow_add-rows c = omega (arith, (shape-of-accepted _ c.requires.0).nodes-high)
@@ -74,39 +75,39 @@ loop-k-preserved c =
     let r : ℕ = c.loop-r.r in
     let z : most_cells * r + most_cells - most_cells * r ≡ most_cells = omega arith in
     let room : most_cells * r + most_cells ≤ length l.cells = omega (arith, i.6, i.10) in
-    ⊎_elim
-    (λ w.
-    let part : List ℕ = w.3.last.0 in
-    let long : length part ≡ most_cells = w.3.kept.0 ∙ part_length l.cells (most_cells * r) (most_cells * r + most_cells - most_cells * r) most_cells z (omega arith) in
-    let run : List ℕ → List ℕ = λ s. set s (task_at p l.k).target (op_value (task_at p l.k).op (task_at p l.k).target c.args.sensors.now s) in (
-      search rules,
-      i.1,
-      rw w.7 i.2,
-      rw w.7 i.3,
-      tasks-hit p _ _ _ l.k w.0.taken i.4 (ap (λ (s : List ℕ). row_of s r) w.6 ∙ row-changed l.cells part r refl z room long run w.3.ensures),
-      (λ q ne. ap (λ (s : List ℕ). row_of s q) w.6 ∙ lent_other l.cells part r refl z room long q ne ∙ i.5 q ne),
-      ap length w.6 ∙ lent_length l.cells part r refl z room long ∙ i.6,
-      i.7,
-      i.8,
-      i.9,
-      i.10,
-      i.11,
-    ))
-    (λ w. (
-      search rules,
-      i.1,
-      rw w.2 i.0,
-      rw w.2 (skips-earlier p s c.loop-k-test.true c.if-g-frame.false w.0.left),
-      ap (λ (s : List ℕ). row_of s r) w.1 ∙ tasks-miss p _ _ _ l.k w.0.left i.4,
-      (λ q ne. ap (λ (s : List ℕ). row_of s q) w.1 ∙ i.5 q ne),
-      ap length w.1 ∙ i.6,
-      i.7,
-      i.8,
-      i.9,
-      i.10,
-      i.11,
-    ))
-    c.if-frame-g.branch
+    elim c.if-frame-g.branch [
+      | then-frame-g w ↦
+          let part : List ℕ = w.run_task_in.new.cells in
+          let long : length part ≡ most_cells = w.run_task_in.auto.cells ∙ part_length l.cells (most_cells * r) (most_cells * r + most_cells - most_cells * r) most_cells z (omega arith) in
+          let run : List ℕ → List ℕ = λ s. set s (task_at p l.k).target (op_value (task_at p l.k).op (task_at p l.k).target c.args.sensors.now s) in (
+            search rules,
+            i.1,
+            rw w.skipped-is i.2,
+            rw w.skipped-is i.3,
+            tasks-hit p _ _ _ l.k w.if-frame-g.true i.4 (ap (λ (s : List ℕ). row_of s r) w.cells-is ∙ row-changed l.cells part r refl z room long run w.run_task_in.ensures),
+            (λ q ne. ap (λ (s : List ℕ). row_of s q) w.cells-is ∙ lent_other l.cells part r refl z room long q ne ∙ i.5 q ne),
+            ap length w.cells-is ∙ lent_length l.cells part r refl z room long ∙ i.6,
+            i.7,
+            i.8,
+            i.9,
+            i.10,
+            i.11,
+          )
+      | else-frame-g w ↦ (
+        search rules,
+        i.1,
+        rw w.skipped-is i.0,
+        rw w.skipped-is (skips-earlier p s c.loop-k-test.true c.if-g-frame.false w.if-frame-g.false),
+        ap (λ (s : List ℕ). row_of s r) w.cells-is ∙ tasks-miss p _ _ _ l.k w.if-frame-g.false i.4,
+        (λ q ne. ap (λ (s : List ℕ). row_of s q) w.cells-is ∙ i.5 q ne),
+        ap length w.cells-is ∙ i.6,
+        i.7,
+        i.8,
+        i.9,
+        i.10,
+        i.11,
+      )
+    ]
 
 pub nonzero_rem-counters : goal.nonzero_rem-counters
 nonzero_rem-counters c = (shape-of-accepted _ c.requires.0).frames-pos
@@ -129,7 +130,7 @@ loop-r-preserved c =
       through-next (ran p a.sensors.now a.first) _ _ i.6
           (ran-stored p a.sensors.now a.first l.counters l.cells _ m.cells l.r i.7
           (computed-stored p a.sensors.now l.counters l.cells m.cells l.r few
-          (⊎_elim (λ w. tasks-end p _ _ _ m.invariant.4 (omega (arith, w.left, m.invariant.0))) (λ w. tasks-later p _ _ _ s m.invariant.4 w.0.taken w.1.taken) c.loop-k-test.branch)
+          (elim c.loop-k-test.branch [ else-loop-k-test w ↦ tasks-end p _ _ _ m.invariant.4 (omega (arith, w.loop-k-test.false, m.invariant.0)) | then-loop-k-test+then-g-frame w ↦ tasks-later p _ _ _ s m.invariant.4 w.loop-k-test.true w.if-g-frame.true ])
           m.invariant.5)),
       omega (arith, i.7),
     )

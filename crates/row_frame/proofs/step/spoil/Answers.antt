@@ -11,6 +11,7 @@ use Rattle.rows.proofs.RowLaws.{through-next, through-kept, through-all, through
 use Rattle.row_frame.specs.Code.{spoiled}
 use Rattle.row_frame.proofs.SpoilLaws.{memory-in, spoiled-first, spoiled-good, spoiled-long, spoiled-stored}
 use Rattle.row_frame.proofs.step.spoil.Goals as goal
+use Rattle.row_frame.proofs.step.spoil.Goals.{else-is_bad, then-is_bad}
 
 pub loop-j-init : goal.loop-j-init
 loop-j-init c = let a = c.args in (search rules, search rules, search rules, search rules, spoiled-first a.s a.mask a.faults.now _ _)
@@ -34,22 +35,22 @@ loop-j-preserved c = let a = c.args in
     let room : most_cells * (l.j + 1) + most_cells ≤ length l.cells = omega (arith, l.invariant.1, l.invariant.3, c.loop-j-test.true) in
     let few : l.j + 1 < length l.counters = omega (arith, l.invariant.1, l.invariant.2, c.loop-j-test.true) in
     let z : most_cells * (l.j + 1) + most_cells - most_cells * (l.j + 1) ≡ most_cells = omega arith in
-    ⊎_elim
-    (λ w. (
-      search rules,
-      l.invariant.1,
-      ap length w.7 ∙ length-set l.counters _ _ ∙ l.invariant.2,
-      ap length w.8 ∙ spoiled-long a.s a.mask a.faults.now l.j l.cells _ refl z w.1.ensures room w.4.ensures ∙ l.invariant.3,
-      through_same f _ _ (through-next f _ _ l.invariant.4 (spoiled-stored a.s a.mask a.faults.now l.j l.cells _ refl z w.1.ensures room w.4.ensures l.counters few w.2.ensures (sym c.is_bad.ensures ∙ w.0.taken))) w.7 w.8,
-    ))
-    (λ w. (
-      search rules,
-      l.invariant.1,
-      ap length w.1 ∙ l.invariant.2,
-      ap length w.2 ∙ l.invariant.3,
-      through_same f _ _ (through-kept f _ _ l.invariant.4 (spoiled-good a.s a.mask a.faults.now l.j (sym c.is_bad.ensures ∙ w.0.left))) w.1 w.2,
-    ))
-    c.if-is_bad.branch
+    elim c.if-is_bad.branch [
+      | then-is_bad w ↦ (
+        search rules,
+        l.invariant.1,
+        ap length w.counters-is ∙ length-set l.counters _ _ ∙ l.invariant.2,
+        ap length w.cells-is ∙ spoiled-long a.s a.mask a.faults.now l.j l.cells _ refl z w.part_at-from.ensures room w.fault_row.ensures ∙ l.invariant.3,
+        through_same f _ _ (through-next f _ _ l.invariant.4 (spoiled-stored a.s a.mask a.faults.now l.j l.cells _ refl z w.part_at-from.ensures room w.fault_row.ensures l.counters few w.read_be2.ensures (sym c.is_bad.ensures ∙ w.if-is_bad.true))) w.counters-is w.cells-is,
+      )
+      | else-is_bad w ↦ (
+        search rules,
+        l.invariant.1,
+        ap length w.counters-is ∙ l.invariant.2,
+        ap length w.cells-is ∙ l.invariant.3,
+        through_same f _ _ (through-kept f _ _ l.invariant.4 (spoiled-good a.s a.mask a.faults.now l.j (sym c.is_bad.ensures ∙ w.if-is_bad.false))) w.counters-is w.cells-is,
+      )
+    ]
 
 pub returns : goal.returns
 returns c = let e : c.loop-j.j ≡ c.args.s.nodes = omega arith in
