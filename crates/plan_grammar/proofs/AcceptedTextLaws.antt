@@ -1,5 +1,5 @@
 -- The lines of a text that none of 2 to 5 refuses are those of the record that they mean.
-use mathlib.Core.Path.{◌≡◌, refl, sym, ap, ◌∙◌}
+use mathlib.Core.Path.{◌≡◌, refl, sym, ap, ◌∙◌, subst}
 use mathlib.Core.Bool.{Bool, true, false, cond, ◌&&◌, ◌||◌}
 use mathlib.Core.List.{List, [], ◌∷◌, ◌++◌, append_assoc, append-nil}
 use mathlib.Core.Option.{none}
@@ -7,7 +7,7 @@ use Prim.Native.Nat.{ℕ, zero, suc, ◌+◌, ◌-◌, ◌*◌, ◌^◌, ◌≤�
 use native.Mathlib.Omega.{arith}
 use native.Mathlib.Numerals.{add-one}
 use lib.Dec.{eqb, leb, ltb}
-use lib.ListN.{length}
+use lib.ListN.{length, get_or, set}
 use lib.Seq.{get_or-set_same}
 use borrow.Author.Tests.{ltb-true, leb-true, eqb-true, eqb-false, ne_eqb}
 use Rattle.array.specs.Index.{joined}
@@ -82,8 +82,9 @@ module _ (ls : List (List ℕ)) (q : Plan) where
       → ((k : ℕ) → suc k ≡ t → (task_at q k).frame ≤ x.frame) → Told (ls ++ (task_line x ∷ [])) (with_task x q) q.cells (suc t) 0 0
   unfolding joined header_line
   told-task t x h m o s f =
+      let w : ◌≡◌ {A = List (List ℕ)} (joined (λ k. task_line (get_or (set q.tasks q.task_count x) k unused_task) ∷ []) (suc t)) (joined (λ k. task_line (get_or q.tasks k unused_task) ∷ []) t ++ (task_line x ∷ [])) = subst (λ (n : ℕ). ◌≡◌ {A = List (List ℕ)} (joined (λ k. task_line (get_or (set q.tasks n x) k unused_task) ∷ []) (suc t)) (joined (λ k. task_line (get_or q.tasks k unused_task) ∷ []) t ++ (task_line x ∷ []))) (sym h.count) (tasks-line q.tasks t x (omega (arith, h.tasks.size))) in
       record {
-        lines = rw (h.lines, h.count, tasks-line q.tasks t x (omega (arith, h.tasks.size))) (simp (append_assoc, append-nil));
+        lines = rw (h.lines, w) (simp (append_assoc, append-nil));
         header = h.header;
         cells = h.cells;
         count = rw h.count (add-one t);

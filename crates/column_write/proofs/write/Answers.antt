@@ -1,7 +1,6 @@
 -- `column_write::write` meets its contract: what is yet to be written, then what stands in `out` from `i` on, is the column.
 use mathlib.Core.Path.{◌≡◌, sym, ap, ◌∙◌}
 use mathlib.Core.List.{[], ◌++◌}
-use mathlib.Core.Logic.{⊎_elim}
 use Prim.Native.Nat.{ℕ, suc, ◌+◌, ◌<◌, ◌≤◌, ◌-◌, ◌/◌, ◌%◌}
 use native.Mathlib.Omega.{arith}
 use lib.ListN.{length, set, drop, length-set}
@@ -10,15 +9,8 @@ use Rattle.column.specs.Column.{column, front}
 use Rattle.column_write.specs.Code.{digit_list}
 use Rattle.column_write.proofs.PrintLaws.{Written, written-digits, written-short, digits-eight, digits-four, digits-room, digits-length}
 use Rattle.column_write.proofs.WritingLaws.{column-start, column-end, column-next, front-next}
-use Rattle.column_write.proofs.write.Reads as reads
-use Rattle.column_write.proofs.write.Lts as lts
-use Rattle.column_write.proofs.glyph.Reads as glyph-reads
-use Rattle.column_write.proofs.step.blanked.Reads as blanked-reads
-use Rattle.column_write.proofs.step.digit_word.Reads as digit-word-reads
-use Rattle.column_write.proofs.step.put_blanks.Reads as put-blanks-reads
-use Rattle.word.proofs.step.write_le8.Reads as write-le8-reads
-use Rattle.word.proofs.step.write_le4.Reads as write-le4-reads
 use Rattle.column_write.proofs.write.Goals as goal
+use Rattle.column_write.proofs.write.Goals.{then-i-ge4+else-rest-eq0-2, else-i-ge4}
 
 pub loop-i-init : goal.loop-i-init
 loop-i-init c = (search rules, search rules, column-start c.args.out.now c.args.v)
@@ -33,10 +25,10 @@ returns-then-rest-eq0 c =
     let a = c.args in
     let p : 8 ≤ l.i = omega (arith, c.loop-i-test) in
     let short : l.rest < 100000000 = omega (arith, c.if-rest-eq0.true) in
-    written-short a.out.now l.out c.write_le8.new.0 [] a.v l.i l.rest c.digit_word-d.result l.invariant
+    written-short a.out.now l.out c.write_le8.new.out [] a.v l.i l.rest c.digit_word-d.result l.invariant
     7
     c.blanked.result
-    c.put_blanks.new.0
+    c.put_blanks.new.out
     p
     (search rules)
     (c.digit_word-d.ensures ∙ digits-eight l.rest)
@@ -55,7 +47,7 @@ loop-i-preserved c =
     let a = c.args in
     let p : 8 ≤ l.i = omega (arith, c.loop-i-test) in
     let wider : 0 < l.rest / 100000000 = omega (arith, c.if-rest-eq0.false) in
-    written-digits a.out.now l.out c.write_le8-in-loop-i.new.0 [] a.v l.i l.rest c.digit_word-d.result l.invariant
+    written-digits a.out.now l.out c.write_le8-in-loop-i.new.out [] a.v l.i l.rest c.digit_word-d.result l.invariant
     8
     p
     (search rules)
@@ -73,10 +65,10 @@ returns-then-rest-eq0-2 c =
     let a = c.args in
     let p : 4 ≤ l.i = omega (arith, c.if-i-ge4.true) in
     let short : l.rest < 10000 = omega (arith, c.if-rest-eq0-2.true) in
-    written-short a.out.now l.out c.write_le4.new.0 (digit_list 4 0) a.v l.i l.rest c.digit_word-d-then-i-ge4.result l.invariant
+    written-short a.out.now l.out c.write_le4.new.out (digit_list 4 0) a.v l.i l.rest c.digit_word-d-then-i-ge4.result l.invariant
     3
     c.blanked-then-rest-eq0-2.result
-    c.put_blanks-then-rest-eq0-2.new.0
+    c.put_blanks-then-rest-eq0-2.new.out
     p
     (ap (λ (n : ℕ). 4 + n) (digits-length 4 0))
     (c.digit_word-d-then-i-ge4.ensures ∙ digits-four l.rest)
@@ -89,68 +81,85 @@ pub overflow_add-d-then-i-ge4 : goal.overflow_add-d-then-i-ge4
 overflow_add-d-then-i-ge4 c =
     omega (arith, c.digit_word-d-then-i-ge4.ensures, digits-room (c.loop-i.rest % 10000) 0)
 
--- where the code for four digits is done or was passed by
-abbrev Joined : Type 0
-Joined =
-    lts.Joined2 (
-      digit-word-reads.Asked,
-      digit-word-reads.Learnt,
-      blanked-reads.Asked,
-      blanked-reads.Learnt,
-      write-le8-reads.Asked,
-      write-le8-reads.Learnt,
-      put-blanks-reads.Asked,
-      put-blanks-reads.Learnt,
-      write-le4-reads.Asked,
-      write-le4-reads.Learnt,
-      glyph-reads.Asked,
-      glyph-reads.Learnt,
-    )
-    reads.Pre
-    reads.Post
-    invariant-loop
-    decreases-loop
-    invariant-loop2
-    decreases-loop2
-
-joined :
-    (c : Joined) →
-    Written c.args.out.now c.args.v c.if-i-ge4.out c.if-i-ge4.i c.if-i-ge4.rest
-joined c =
-    let a = c.args in
-    let l = c.loop-i in
-    ⊎_elim
-    (λ w.
-    let p : 4 ≤ l.i = omega (arith, w.0.taken) in
-    let wider : 0 < l.rest / 10000 = omega (arith, w.2.left) in
-    rw (w.7, w.8, w.9)
-    (written-digits a.out.now l.out w.4.last.0 (digit_list 4 0) a.v l.i l.rest w.1.result l.invariant
-    4
-    p
-    (ap (λ (n : ℕ). 4 + n) (digits-length 4 0))
-    (w.1.ensures ∙ digits-four l.rest)
-    wider
-    w.4.ensures))
-    (λ w. rw (w.1, w.2, w.3) l.invariant)
-    c.if-i-ge4.branch
-
 pub shape_of-out-then-i-eq0 : goal.shape_of-out-then-i-eq0
-shape_of-out-then-i-eq0 c = (joined c.before).1
+shape_of-out-then-i-eq0 c =
+    let joined : Written c.args.out.now c.args.v c.if-i-ge4.out c.if-i-ge4.i c.if-i-ge4.rest =
+    elim c.if-i-ge4.branch [
+      | then-i-ge4+else-rest-eq0-2 w ↦
+          let p : 4 ≤ c.loop-i.i = omega (arith, w.if-i-ge4.true) in
+          let wider : 0 < c.loop-i.rest / 10000 = omega (arith, w.if-rest-eq0-2.false) in
+          rw (w.out-is, w.i-is, w.rest-is)
+          (written-digits c.args.out.now c.loop-i.out w.write_le4-then-i-ge4.new.out (digit_list 4 0) c.args.v c.loop-i.i c.loop-i.rest w.digit_word-d-then-i-ge4.result c.loop-i.invariant
+          4
+          p
+          (ap (λ (n : ℕ). 4 + n) (digits-length 4 0))
+          (w.digit_word-d-then-i-ge4.ensures ∙ digits-four c.loop-i.rest)
+          wider
+          w.write_le4-then-i-ge4.ensures)
+      | else-i-ge4 w ↦ rw (w.out-is, w.i-is, w.rest-is) c.loop-i.invariant
+    ] in
+    joined.1
 
 pub returns-then-i-eq0 : goal.returns-then-i-eq0
 returns-then-i-eq0 c =
+    let joined : Written c.args.out.now c.args.v c.if-i-ge4.out c.if-i-ge4.i c.if-i-ge4.rest =
+    elim c.if-i-ge4.branch [
+      | then-i-ge4+else-rest-eq0-2 w ↦
+          let p : 4 ≤ c.loop-i.i = omega (arith, w.if-i-ge4.true) in
+          let wider : 0 < c.loop-i.rest / 10000 = omega (arith, w.if-rest-eq0-2.false) in
+          rw (w.out-is, w.i-is, w.rest-is)
+          (written-digits c.args.out.now c.loop-i.out w.write_le4-then-i-ge4.new.out (digit_list 4 0) c.args.v c.loop-i.i c.loop-i.rest w.digit_word-d-then-i-ge4.result c.loop-i.invariant
+          4
+          p
+          (ap (λ (n : ℕ). 4 + n) (digits-length 4 0))
+          (w.digit_word-d-then-i-ge4.ensures ∙ digits-four c.loop-i.rest)
+          wider
+          w.write_le4-then-i-ge4.ensures)
+      | else-i-ge4 w ↦ rw (w.out-is, w.i-is, w.rest-is) c.loop-i.invariant
+    ] in
     let j = c.if-i-ge4 in
     let a = c.args in
-    column-end (column (length a.out.now) a.v) j.out j.i j.rest (joined c.before).2 c.if-i-eq0.true
+    column-end (column (length a.out.now) a.v) j.out j.i j.rest joined.2 c.if-i-eq0.true
 
 pub bounds-out-i : goal.bounds-out-i
-bounds-out-i c = let z = c.if-i-eq0.false in omega (arith, (joined c.before).0)
+bounds-out-i c =
+    let joined : Written c.args.out.now c.args.v c.if-i-ge4.out c.if-i-ge4.i c.if-i-ge4.rest =
+    elim c.if-i-ge4.branch [
+      | then-i-ge4+else-rest-eq0-2 w ↦
+          let p : 4 ≤ c.loop-i.i = omega (arith, w.if-i-ge4.true) in
+          let wider : 0 < c.loop-i.rest / 10000 = omega (arith, w.if-rest-eq0-2.false) in
+          rw (w.out-is, w.i-is, w.rest-is)
+          (written-digits c.args.out.now c.loop-i.out w.write_le4-then-i-ge4.new.out (digit_list 4 0) c.args.v c.loop-i.i c.loop-i.rest w.digit_word-d-then-i-ge4.result c.loop-i.invariant
+          4
+          p
+          (ap (λ (n : ℕ). 4 + n) (digits-length 4 0))
+          (w.digit_word-d-then-i-ge4.ensures ∙ digits-four c.loop-i.rest)
+          wider
+          w.write_le4-then-i-ge4.ensures)
+      | else-i-ge4 w ↦ rw (w.out-is, w.i-is, w.rest-is) c.loop-i.invariant
+    ] in
+    let z = c.if-i-eq0.false in omega (arith, joined.0)
 
 pub loop-i-2-init : goal.loop-i-2-init
 loop-i-2-init c =
+    let joined : Written c.args.out.now c.args.v c.if-i-ge4.out c.if-i-ge4.i c.if-i-ge4.rest =
+    elim c.if-i-ge4.branch [
+      | then-i-ge4+else-rest-eq0-2 w ↦
+          let p : 4 ≤ c.loop-i.i = omega (arith, w.if-i-ge4.true) in
+          let wider : 0 < c.loop-i.rest / 10000 = omega (arith, w.if-rest-eq0-2.false) in
+          rw (w.out-is, w.i-is, w.rest-is)
+          (written-digits c.args.out.now c.loop-i.out w.write_le4-then-i-ge4.new.out (digit_list 4 0) c.args.v c.loop-i.i c.loop-i.rest w.digit_word-d-then-i-ge4.result c.loop-i.invariant
+          4
+          p
+          (ap (λ (n : ℕ). 4 + n) (digits-length 4 0))
+          (w.digit_word-d-then-i-ge4.ensures ∙ digits-four c.loop-i.rest)
+          wider
+          w.write_le4-then-i-ge4.ensures)
+      | else-i-ge4 w ↦ rw (w.out-is, w.i-is, w.rest-is) c.loop-i.invariant
+    ] in
     let a = c.args in
     let j = c.if-i-ge4 in
-    let s = joined c.before in
+    let s = joined in
     let out = j.out in
     let i = j.i in
     let z = c.if-i-eq0.false in
@@ -180,16 +189,46 @@ loop-i-2-preserved c =
 
 pub shape_of-out : goal.shape_of-out
 shape_of-out c =
+    let joined : Written c.args.out.now c.args.v c.if-i-ge4.out c.if-i-ge4.i c.if-i-ge4.rest =
+    elim c.if-i-ge4.branch [
+      | then-i-ge4+else-rest-eq0-2 w ↦
+          let p : 4 ≤ c.loop-i.i = omega (arith, w.if-i-ge4.true) in
+          let wider : 0 < c.loop-i.rest / 10000 = omega (arith, w.if-rest-eq0-2.false) in
+          rw (w.out-is, w.i-is, w.rest-is)
+          (written-digits c.args.out.now c.loop-i.out w.write_le4-then-i-ge4.new.out (digit_list 4 0) c.args.v c.loop-i.i c.loop-i.rest w.digit_word-d-then-i-ge4.result c.loop-i.invariant
+          4
+          p
+          (ap (λ (n : ℕ). 4 + n) (digits-length 4 0))
+          (w.digit_word-d-then-i-ge4.ensures ∙ digits-four c.loop-i.rest)
+          wider
+          w.write_le4-then-i-ge4.ensures)
+      | else-i-ge4 w ↦ rw (w.out-is, w.i-is, w.rest-is) c.loop-i.invariant
+    ] in
     let j = c.if-i-ge4 in
-    c.loop-i-2.invariant.1 ∙ length-set j.out (j.i - 1) (48 + j.rest % 10) ∙ (joined c).1
+    c.loop-i-2.invariant.1 ∙ length-set j.out (j.i - 1) (48 + j.rest % 10) ∙ joined.1
 
 pub returns : goal.returns
 unfolding front
 returns c =
+    let joined : Written c.args.out.now c.args.v c.if-i-ge4.out c.if-i-ge4.i c.if-i-ge4.rest =
+    elim c.if-i-ge4.branch [
+      | then-i-ge4+else-rest-eq0-2 w ↦
+          let p : 4 ≤ c.loop-i.i = omega (arith, w.if-i-ge4.true) in
+          let wider : 0 < c.loop-i.rest / 10000 = omega (arith, w.if-rest-eq0-2.false) in
+          rw (w.out-is, w.i-is, w.rest-is)
+          (written-digits c.args.out.now c.loop-i.out w.write_le4-then-i-ge4.new.out (digit_list 4 0) c.args.v c.loop-i.i c.loop-i.rest w.digit_word-d-then-i-ge4.result c.loop-i.invariant
+          4
+          p
+          (ap (λ (n : ℕ). 4 + n) (digits-length 4 0))
+          (w.digit_word-d-then-i-ge4.ensures ∙ digits-four c.loop-i.rest)
+          wider
+          w.write_le4-then-i-ge4.ensures)
+      | else-i-ge4 w ↦ rw (w.out-is, w.i-is, w.rest-is) c.loop-i.invariant
+    ] in
     let a = c.args in
     let j = c.if-i-ge4 in
     let l = c.loop-i-2 in
     let n : length (set j.out (j.i - 1) (48 + j.rest % 10)) ≡ length a.out.now =
-    length-set j.out (j.i - 1) (48 + j.rest % 10) ∙ (joined c).1 in
+    length-set j.out (j.i - 1) (48 + j.rest % 10) ∙ joined.1 in
     let z : l.i ≡ 0 = omega (arith, c.loop-i-2-test) in
     sym (ap (λ (c : ℕ). column c a.v) (sym n) ∙ l.invariant.2 ∙ ap (λ (c : ℕ). front c l.rest ++ drop c l.out) z)

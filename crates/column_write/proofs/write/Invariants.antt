@@ -4,14 +4,6 @@ use Prim.Native.Nat.{◌+◌, ◌<◌, ◌-◌}
 use lib.ListN.{length, drop}
 use Rattle.column.specs.Column.{column, front}
 use Rattle.column_write.proofs.PrintLaws.{Written}
-use Rattle.column_write.proofs.write.Reads as reads
-use Rattle.column_write.proofs.write.Lts as lts
-use Rattle.column_write.proofs.glyph.Reads as glyph-reads
-use Rattle.column_write.proofs.step.blanked.Reads as blanked-reads
-use Rattle.column_write.proofs.step.digit_word.Reads as digit-word-reads
-use Rattle.column_write.proofs.step.put_blanks.Reads as put-blanks-reads
-use Rattle.word.proofs.step.write_le8.Reads as write-le8-reads
-use Rattle.word.proofs.step.write_le4.Reads as write-le4-reads
 use Rattle.column_write.proofs.write.Given as goal
 
 abbrev pub invariant-loop-i : goal.invariant-loop-i

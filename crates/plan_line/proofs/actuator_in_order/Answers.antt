@@ -1,11 +1,6 @@
 use borrow.Author.Tests.{eq-eqb, ne_eqb}
 use Rattle.plan_grammar.specs.Refused.{actuator_in_order}
 use borrow.Author.Rules.{rules}
-use Rattle.plan_line.proofs.actuator_in_order.Reads as reads
-use Rattle.plan_line.proofs.actuator_in_order.Lts as lts
-use Rattle.plan_line.proofs.after_cells.Reads as after-cells-reads
-use Rattle.plan_line.proofs.follows.Reads as follows-reads
-use Rattle.plan_line.proofs.is_task.Reads as is-task-reads
 use Rattle.plan_line.proofs.actuator_in_order.Goals as goal
 
 pub after_cells-requires : goal.after_cells-requires

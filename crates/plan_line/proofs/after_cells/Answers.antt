@@ -1,7 +1,5 @@
 use Rattle.plan_grammar.specs.Refused.{after_cells}
 use mathlib.Core.Path.{refl}
-use Rattle.plan_line.proofs.after_cells.Reads as reads
-use Rattle.plan_line.proofs.after_cells.Lts as lts
 use Rattle.plan_line.proofs.after_cells.Goals as goal
 
 pub returns : goal.returns

@@ -1,7 +1,5 @@
 use Rattle.plan_line.proofs.ReaderLaws.{follows-less, follows-not}
 use borrow.Author.Rules.{rules}
-use Rattle.plan_line.proofs.follows.Reads as reads
-use Rattle.plan_line.proofs.follows.Lts as lts
 use Rattle.plan_line.proofs.follows.Goals as goal
 
 pub overflow_sub-result : goal.overflow_sub-result

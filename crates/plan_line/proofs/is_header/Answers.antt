@@ -1,8 +1,5 @@
 use Rattle.plan_grammar.specs.Refused.{is_header}
 use borrow.Author.Rules.{rules}
-use Rattle.plan_line.proofs.is_header.Reads as reads
-use Rattle.plan_line.proofs.is_header.Lts as lts
-use Rattle.plan_entry.proofs.header_ok.Reads as header-ok-reads
 use Rattle.plan_line.proofs.is_header.Goals as goal
 
 pub header_ok-requires : goal.header_ok-requires

@@ -1,8 +1,5 @@
 use Rattle.plan_grammar.specs.Refused.{is_last}
 use borrow.Author.Rules.{rules}
-use Rattle.plan_line.proofs.is_last.Reads as reads
-use Rattle.plan_line.proofs.is_last.Lts as lts
-use Rattle.plan_line.proofs.follows.Reads as follows-reads
 use Rattle.plan_line.proofs.is_last.Goals as goal
 
 pub follows-requires : goal.follows-requires

@@ -1,7 +1,5 @@
 use mathlib.Core.Path.{refl}
 use Rattle.plan_grammar.specs.Line.{is_task}
-use Rattle.plan_line.proofs.is_task.Reads as reads
-use Rattle.plan_line.proofs.is_task.Lts as lts
 use Rattle.plan_line.proofs.is_task.Goals as goal
 
 pub returns : goal.returns

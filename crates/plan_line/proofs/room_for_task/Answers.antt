@@ -1,6 +1,4 @@
 use Rattle.plan_line.proofs.ReaderLaws.{room-before, room_after}
-use Rattle.plan_line.proofs.room_for_task.Reads as reads
-use Rattle.plan_line.proofs.room_for_task.Lts as lts
 use Rattle.plan_line.proofs.room_for_task.Goals as goal
 
 pub returns-then-j-cells : goal.returns-then-j-cells

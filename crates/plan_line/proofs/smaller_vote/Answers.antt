@@ -1,7 +1,5 @@
 use Rattle.plan_grammar.specs.Refused.{smaller_vote}
 use mathlib.Core.Path.{refl}
-use Rattle.plan_line.proofs.smaller_vote.Reads as reads
-use Rattle.plan_line.proofs.smaller_vote.Lts as lts
 use Rattle.plan_line.proofs.smaller_vote.Goals as goal
 
 pub returns : goal.returns

@@ -1,10 +1,5 @@
 use Rattle.plan_grammar.specs.Refused.{task_in_order}
 use borrow.Author.Rules.{rules}
-use Rattle.plan_line.proofs.task_in_order.Reads as reads
-use Rattle.plan_line.proofs.task_in_order.Lts as lts
-use Rattle.plan_line.proofs.after_cells.Reads as after-cells-reads
-use Rattle.plan_line.proofs.is_task.Reads as is-task-reads
-use Rattle.plan_line.proofs.room_for_task.Reads as room-for-task-reads
 use Rattle.plan_line.proofs.task_in_order.Goals as goal
 
 pub room_for_task-requires : goal.room_for_task-requires

@@ -1,8 +1,5 @@
 use Rattle.plan_grammar.specs.Meant.{task_of}
 use borrow.Author.Rules.{rules}
-use Rattle.plan_line.proofs.task_of.Reads as reads
-use Rattle.plan_line.proofs.task_of.Lts as lts
-use Rattle.plan_line.proofs.op_of.Reads as op-of-reads
 use Rattle.plan_line.proofs.task_of.Goals as goal
 
 pub op_of-op-requires : goal.op_of-op-requires

@@ -1,7 +1,5 @@
 use Rattle.plan_grammar.specs.Refused.{task_zeros}
 use mathlib.Core.Path.{refl}
-use Rattle.plan_line.proofs.task_zeros.Reads as reads
-use Rattle.plan_line.proofs.task_zeros.Lts as lts
 use Rattle.plan_line.proofs.task_zeros.Goals as goal
 
 pub returns : goal.returns

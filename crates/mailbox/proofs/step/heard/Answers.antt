@@ -9,6 +9,7 @@ use Rattle.plan.specs.Limits.{most_nodes}
 use Rattle.ballot.proofs.BinLaws.{told_none, told-next, told-packs}
 use Rattle.mailbox.proofs.HeardLaws.{heard-bad, heard-good, place-small}
 use Rattle.mailbox.proofs.step.heard.Goals as goal
+use Rattle.mailbox.proofs.step.heard.Goals.{else-is_set, then-is_set}
 
 pub loop-j-init : goal.loop-j-init
 loop-j-init c = (search rules, search rules, told_none _ (replicate most_nodes 0))
@@ -29,18 +30,18 @@ pub loop-j-preserved : goal.loop-j-preserved
 loop-j-preserved c =
     let l = c.loop-j in
     let h : l.j < length l.all = omega (arith, l.invariant.1, c.loop-j-test.true, c.requires.0) in
-    ⊎_elim
-    (λ v. (
-      search rules,
-      ap length v.2 ∙ length-set l.all _ _ ∙ l.invariant.1,
-      rw v.2 (told-next _ l.all l.j _ h (heard-bad _ _ c.is_set.ensures v.0.taken v.1.ensures) l.invariant.2),
-    ))
-    (λ v. (
-      search rules,
-      ap length v.2 ∙ length-set l.all _ _ ∙ l.invariant.1,
-      rw v.2 (told-next _ l.all l.j _ h (heard-good _ _ c.is_set.ensures v.0.left) l.invariant.2),
-    ))
-    c.if-is_set.branch
+    elim c.if-is_set.branch [
+      | then-is_set v ↦ (
+        search rules,
+        ap length v.all-is ∙ length-set l.all _ _ ∙ l.invariant.1,
+        rw v.all-is (told-next _ l.all l.j _ h (heard-bad _ _ c.is_set.ensures v.if-is_set.true v.bin_word.ensures) l.invariant.2),
+      )
+      | else-is_set v ↦ (
+        search rules,
+        ap length v.all-is ∙ length-set l.all _ _ ∙ l.invariant.1,
+        rw v.all-is (told-next _ l.all l.j _ h (heard-good _ _ c.is_set.ensures v.if-is_set.false) l.invariant.2),
+      )
+    ]
 
 pub returns : goal.returns
 returns c =

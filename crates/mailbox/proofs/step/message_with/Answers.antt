@@ -15,8 +15,8 @@ loop-c-init c =
       search rules,
       c.requires.2,
       omega (arith, c.requires.1, c.frame_before-g.ensures.1),
-      omega (arith, w.auto.0, c.requires.3),
-      sent-none a.out.now w.new.0 (sent_cell _ a.memory) a.memory.counter (omega (arith, c.requires.3)) w.ensures,
+      omega (arith, w.auto.s, c.requires.3),
+      sent-none a.out.now w.new.s (sent_cell _ a.memory) a.memory.counter (omega (arith, c.requires.3)) w.ensures,
     )
 
 pub loop-c-preserved : goal.loop-c-preserved
@@ -29,8 +29,8 @@ loop-c-preserved c =
       search rules,
       l.invariant.1,
       l.invariant.2,
-      omega (arith, w.auto.0, l.invariant.3),
-      sent-more l.out w.new.0 (sent_cell _ m) m.counter l.c _ (omega (arith, l.invariant.3, c.loop-c-test.true)) l.invariant.4 x (rw c.Cell-at.ensures at w.ensures),
+      omega (arith, w.auto.s, l.invariant.3),
+      sent-more l.out w.new.s (sent_cell _ m) m.counter l.c _ (omega (arith, l.invariant.3, c.loop-c-test.true)) l.invariant.4 x (rw c.cell_at.ensures at w.ensures),
     )
 
 pub shape_of-out : goal.shape_of-out

@@ -11,6 +11,7 @@ use Rattle.array.proofs.LoopLaws.{stored-all}
 use Rattle.array.proofs.LeastLaws.{least-none}
 use Rattle.memory.proofs.StepLaws.{lent, agreed_to, counter-voted, counter-agreed, cell-voted, cell-agreed, cell-kept, cell-unvoted, memory-voted, vote-agreed, voted-lent, agreement-lent}
 use Rattle.mailbox.proofs.step.vote_with.Goals as goal
+use Rattle.mailbox.proofs.step.vote_with.Goals.{else-is_voted, then-is_voted}
 
 pub words_in-bins-requires : goal.words_in-bins-requires
 words_in-bins-requires c = (c.requires.0, c.requires.3, omega arith, omega (arith, c.requires.4))
@@ -42,29 +43,29 @@ loop-c-preserved c =
     let box = a.mailbox.now in
     let cells = a.memory.cells in
     let g = c.frame_before-frame.result in
-    ⊎_elim
-    (λ w.
-    let v = sym c.is_voted.ensures ∙ w.0.taken in
-    let packs = rw (add-one l.c) at w.1.ensures in (
-      search rules,
-      i.1,
-      i.2,
-      i.3,
-      i.4,
-      w.11 ∙ cell-voted p box cells g l.c _ i.5 v packs w.4.ensures w.5.ensures,
-      w.10 ∙ cell-agreed p box g _ l.c i.6 _ v packs w.4.ensures w.8.ensures w.9.ensures,
-    ))
-    (λ w.
-    let v = sym c.is_voted.ensures ∙ w.0.left in (
-      search rules,
-      i.1,
-      i.2,
-      i.3,
-      i.4,
-      w.2 ∙ cell-kept p cells box g l.c i.5 v,
-      w.1 ∙ cell-unvoted p box g _ l.c i.6 v,
-    ))
-    c.if-is_voted.branch
+    elim c.if-is_voted.branch [
+      | then-is_voted w ↦
+          let v = sym c.is_voted.ensures ∙ w.if-is_voted.true in
+          let packs = rw (add-one l.c) at w.words_in-values.ensures in (
+            search rules,
+            i.1,
+            i.2,
+            i.3,
+            i.4,
+            w.cells-is ∙ cell-voted p box cells g l.c _ i.5 v packs w.majority-v.ensures w.or_old.ensures,
+            w.agreement-is ∙ cell-agreed p box g _ l.c i.6 _ v packs w.majority-v.ensures w.agreement.ensures w.min-agreement.ensures,
+          )
+      | else-is_voted w ↦
+          let v = sym c.is_voted.ensures ∙ w.if-is_voted.false in (
+            search rules,
+            i.1,
+            i.2,
+            i.3,
+            i.4,
+            w.cells-is ∙ cell-kept p cells box g l.c i.5 v,
+            w.agreement-is ∙ cell-unvoted p box g _ l.c i.6 v,
+          )
+    ]
 
 pub returns : goal.returns
 returns c =

@@ -12,7 +12,7 @@ shape_of-out c =
     let w4 = c.put-4 in
     let w5 = c.put-5 in
     let w6 = c.put-6 in
-    (line-filled c.args.out.now (57 * c.args.i) l.kind l.second l.third l.fourth l.fifth l.sixth w1.new.0 w2.new.0 w3.new.0 w4.new.0 w5.new.0 w6.new.0 c.requires.0 w1.ensures w2.ensures w3.ensures w4.ensures w5.ensures w6.ensures).same
+    (line-filled c.args.out.now (57 * c.args.i) l.kind l.second l.third l.fourth l.fifth l.sixth w1.new.out w2.new.out w3.new.out w4.new.out w5.new.out w6.new.out c.requires.0 w1.ensures w2.ensures w3.ensures w4.ensures w5.ensures w6.ensures).same
 
 pub returns : goal.returns
 returns c =
@@ -23,4 +23,4 @@ returns c =
     let w4 = c.put-4 in
     let w5 = c.put-5 in
     let w6 = c.put-6 in
-    (line-filled c.args.out.now (57 * c.args.i) l.kind l.second l.third l.fourth l.fifth l.sixth w1.new.0 w2.new.0 w3.new.0 w4.new.0 w5.new.0 w6.new.0 c.requires.0 w1.ensures w2.ensures w3.ensures w4.ensures w5.ensures w6.ensures).ended
+    (line-filled c.args.out.now (57 * c.args.i) l.kind l.second l.third l.fourth l.fifth l.sixth w1.new.out w2.new.out w3.new.out w4.new.out w5.new.out w6.new.out c.requires.0 w1.ensures w2.ensures w3.ensures w4.ensures w5.ensures w6.ensures).ended

@@ -12,6 +12,7 @@ use Rattle.plan_grammar.specs.Line.{line_size}
 use Rattle.array.specs.Code.{placed}
 use Rattle.plan_writer.proofs.WriterLaws.{vote_rows, votes-none, votes-size, votes-hit, votes-miss}
 use Rattle.plan_writer.proofs.step.write_votes.Goals as goal
+use Rattle.plan_writer.proofs.step.write_votes.Goals.{else-voted-e, then-voted-e}
 
 pub loop-e-init : goal.loop-e-init
 loop-e-init c =
@@ -38,10 +39,7 @@ pub loop-e-preserved : goal.loop-e-preserved
 loop-e-preserved c =
     let q : ℕ → Bool = λ e. get_or c.args.voted.now e false in
     let l = c.loop-e in
-    ⊎_elim
-    (λ w. (search rules, omega (arith, how_many-hit q l.e w.0.taken), votes-hit c.args.out.now c.args.from c.args.voted.now l.e l.out l.invariant.2 _ _ l.i (omega (arith, c.requires)) w.0.taken w.2.ensures l.invariant.1 (w.6 ∙ w.3.ensures)))
-    (λ w. (search rules, omega (arith, how_many-miss q l.e w.0.left), w.1 ∙ votes-miss c.args.out.now c.args.from c.args.voted.now l.e l.out l.invariant.2 w.0.left))
-    c.if-voted-e.branch
+    elim c.if-voted-e.branch [ then-voted-e w ↦ (search rules, omega (arith, how_many-hit q l.e w.if-voted-e.true), votes-hit c.args.out.now c.args.from c.args.voted.now l.e l.out l.invariant.2 _ _ l.i (omega (arith, c.requires)) w.if-voted-e.true w.vote_line.ensures l.invariant.1 (w.out-is ∙ w.write_line.ensures)) | else-voted-e w ↦ (search rules, omega (arith, how_many-miss q l.e w.if-voted-e.false), w.out-is ∙ votes-miss c.args.out.now c.args.from c.args.voted.now l.e l.out l.invariant.2 w.if-voted-e.false) ]
 
 pub shape_of-out : goal.shape_of-out
 shape_of-out c =

@@ -8,11 +8,8 @@ use borrow.Author.Rules.{rules}
 use Rattle.array.specs.Index.{fill}
 use Rattle.array.proofs.PlacesLaws.{fill_none, fill_more}
 use Rattle.plan.specs.Limits.{most_actuators}
+use Rattle.system.proofs.Seen.started.Invariants.{entry}
 use Rattle.system.proofs.Seen.started.Goals as goal
-
--- the initial pattern of the cell that the table has
-abbrev entry : List ℕ → List ℕ → ℕ → ℕ
-entry initial table a = get_or initial (get_or table a 0) 0
 
 pub loop-a-init : goal.loop-a-init
 loop-a-init c = (search rules, sym (fill_none _ _))
