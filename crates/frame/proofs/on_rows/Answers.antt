@@ -30,7 +30,7 @@ copy-requires c =
     let a = c.args in
     let q = c.requires in
     let f = c.frame-agreement.ensures.0 a.system (rows_seen c.seen_words-seen.ensures c.unpack.ensures.0) in
-    part_length c.frame-agreement.new.1.1.1.1.1.1.1.1.1.1.0 0 (a.plan.actuators - 0) a.plan.actuators (omega arith)
+    part_length c.frame-agreement.new.seen 0 (a.plan.actuators - 0) a.plan.actuators (omega arith)
     (omega (arith, seen-long f.0, (shape-of-accepted a.plan q.0).actuators-le)) ∙ sym q.4
 
 pub returns : goal.returns
@@ -43,7 +43,7 @@ returns c =
       c.pack-after.ensures _ f.0,
       f.1,
       c.copy.ensures
-          ∙ part-from c.frame-agreement.new.1.1.1.1.1.1.1.1.1.1.0 0 (a.plan.actuators - 0) a.plan.actuators (omega arith) (omega (arith, seen-long f.0, few))
+          ∙ part-from c.frame-agreement.new.seen 0 (a.plan.actuators - 0) a.plan.actuators (omega arith) (omega (arith, seen-long f.0, few))
           ∙ ap (λ (l : List ℕ). from 0 l 0 a.plan.actuators) f.0.seen-is
           ∙ sym (place-seen a.plan a.system a.sensors.now a.mask a.faults.now a.place.now q.4 (omega (arith, few, rows.seen-count))),
     )

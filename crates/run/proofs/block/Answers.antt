@@ -30,16 +30,16 @@ pub listed-r-requires : goal.listed-r-requires
 listed-r-requires c =
     let q = c.requires in
     let a = c.args in
-    (q.0, q.1, q.2, part-few c.read_full-got.new.1.0 (c.read_full-got.result - 0) (length a.input.now) (block_lines * run_line_size a.run.plan.sensors) c.read_full-got.auto.1.0 q.3, q.4, q.5, q.6, q.7)
+    (q.0, q.1, q.2, part-few c.read_full-got.new.buf (c.read_full-got.result - 0) (length a.input.now) (block_lines * run_line_size a.run.plan.sensors) c.read_full-got.auto.buf q.3, q.4, q.5, q.6, q.7)
 
 pub returns : goal.returns
 returns c = (
-  c.read_full-got.auto.1.0,
+  c.read_full-got.auto.buf,
   c.read_full-got.ensures.0,
-  read-laid c.args.run c.read_full-got.new.1.0 _ c.read_full-got.result _ _ c.listed-r.ensures.1,
-  read_more c.args.run c.read_full-got.new.1.0 c.read_full-got.result c.listed-r.result.answer _ c.number.ensures c.listed-r.ensures.0,
+  read-laid c.args.run c.read_full-got.new.buf _ c.read_full-got.result _ _ c.listed-r.ensures.1,
+  read_more c.args.run c.read_full-got.new.buf c.read_full-got.result c.listed-r.result.answer _ c.number.ensures c.listed-r.ensures.0,
   c.listed-r.ensures.2,
-  c.listed-r.auto.1.1.1.0,
+  c.listed-r.auto.faults,
   c.listed-r.ensures.3,
-  c.listed-r.auto.1.1.1.1.0,
+  c.listed-r.auto.out,
 )

@@ -49,8 +49,8 @@ pub returns : goal.returns
 returns c =
     let a = c.args in
     let q = c.requires in
-    let held : List ℕ = c.hold.new.1.1.1.0 in
-    let faults : List ℕ = c.hold.new.1.1.1.1.0 in
+    let held : List ℕ = c.hold.new.held in
+    let faults : List ℕ = c.hold.new.faults in
     let bad : BadHold a.s _ faults _ = held-bad a.s _ _ a.held.now held faults c.hold.ensures.0 q.3 (sizes-small a.plan q.0 a.s q.1).0.nodes c.hold.ensures.2 in (
       ap length c.hold.ensures.0 ∙ fill-length _ a.s.nodes a.held.now ∙ q.3,
       c.hold.ensures.2,

@@ -70,17 +70,17 @@ line_on_rows-requires c =
     )
 
 pub shape_of-faults-then-not-line_on_rows : goal.shape_of-faults-then-not-line_on_rows
-shape_of-faults-then-not-line_on_rows c = c.line_on_rows.auto.1.1.1.1.1.1.1.0 ∙ c.loop-at.invariant.faults-long ∙ ap faults_size (sizes-are c.args.run.plan c.sizes_with-s.ensures c.requires.1) ∙ sym c.requires.5
+shape_of-faults-then-not-line_on_rows c = c.line_on_rows.auto.faults ∙ c.loop-at.invariant.faults-long ∙ ap faults_size (sizes-are c.args.run.plan c.sizes_with-s.ensures c.requires.1) ∙ sym c.requires.5
 
 pub shape_of-out-then-not-line_on_rows : goal.shape_of-out-then-not-line_on_rows
-shape_of-out-then-not-line_on_rows c = same_len_mid c.loop-at.to (c.loop-at.to + c.printed_size-width.result - c.loop-at.to) c.loop-at.out c.line_on_rows.new.1.1.1.1.1.1.1.1.1.1.1.1.0 c.line_on_rows.auto.1.1.1.1.1.1.1.1.1.1.1.1.0 ∙ c.loop-at.invariant.out-long
+shape_of-out-then-not-line_on_rows c = same_len_mid c.loop-at.to (c.loop-at.to + c.printed_size-width.result - c.loop-at.to) c.loop-at.out c.line_on_rows.new.out c.line_on_rows.auto.out ∙ c.loop-at.invariant.out-long
 
 pub returns-then-not-line_on_rows : goal.returns-then-not-line_on_rows
 unfolding line_numbers
 returns-then-not-line_on_rows c =
     let r = c.args.run in
-    let held : List ℕ = c.line_on_rows.new.1.1.1.1.1.1.0 in
-    let faults : List ℕ = c.line_on_rows.new.1.1.1.1.1.1.1.0 in
+    let held : List ℕ = c.line_on_rows.new.held in
+    let faults : List ℕ = c.line_on_rows.new.faults in
     let y = line_refused c.loop-at.invariant c.line_size-size.ensures c.printed_size-width.ensures c.part_end-end.ensures (omega (arith, c.loop-at-test.true)) c.frame_numbers-read.ensures c.line_on_rows.ensures.2 r.system r.single (rows_seen c.seen_words-seen.ensures c.unpack.ensures.0) (c.unpack.ensures.1 ∙ c.put_memory.ensures.here) (not-true c.line_on_rows.result c.if-not-line_on_rows.true) r.period c.stopped.result c.stopped.ensures in
     (y.0, c.line_on_rows.ensures.0, subst (λ (t : Sizes). Held t held faults) (sizes-are r.plan c.sizes_with-s.ensures c.requires.1) c.line_on_rows.ensures.1, y.1)
 
@@ -127,13 +127,13 @@ pub UNKNOWN-overflow-add-t60 : goal.UNKNOWN-overflow-add-t60
 UNKNOWN-overflow-add-t60 c = omega (arith, c.loop-at.invariant.few)
 
 pub slice_bounds-stopped-end : goal.slice_bounds-stopped-end
-slice_bounds-stopped-end c = sym (c.line_on_rows.auto.1.1.1.1.1.1.1.1.0 ∙ c.loop-at.invariant.counters-long)
+slice_bounds-stopped-end c = sym (c.line_on_rows.auto.counters ∙ c.loop-at.invariant.counters-long)
 
 pub slice_bounds-stopped-end-then-not-line_on_rows : goal.slice_bounds-stopped-end-then-not-line_on_rows
-slice_bounds-stopped-end-then-not-line_on_rows c = sym (c.line_on_rows.auto.1.1.1.1.1.1.1.1.1.0 ∙ c.loop-at.invariant.cells-long)
+slice_bounds-stopped-end-then-not-line_on_rows c = sym (c.line_on_rows.auto.cells ∙ c.loop-at.invariant.cells-long)
 
 pub stopped-requires : goal.stopped-requires
-stopped-requires c = (c.line_on_rows.auto.1.1.1.1.1.1.1.1.0 ∙ c.loop-at.invariant.counters-long, c.line_on_rows.auto.1.1.1.1.1.1.1.1.1.0 ∙ c.loop-at.invariant.cells-long)
+stopped-requires c = (c.line_on_rows.auto.counters ∙ c.loop-at.invariant.counters-long, c.line_on_rows.auto.cells ∙ c.loop-at.invariant.cells-long)
 
 pub overflow_add-k : goal.overflow_add-k
 overflow_add-k c = omega (arith, c.loop-at.invariant.few)

@@ -8,3 +8,6 @@ use Rattle.plan_words.proofs.step.put_actuators.Given as goal
 
 abbrev pub invariant-loop-i : goal.invariant-loop-i
 invariant-loop-i l = (l.i ≤ most_actuators) × (length l.initial.out ≡ most_actuators) × (l.out ≡ fill (λ x. get_or l.table x 0) l.i l.initial.out)
+
+abbrev pub decreases-loop-i : goal.decreases-loop-i
+decreases-loop-i l = most_actuators - l.i

@@ -12,3 +12,6 @@ use Rattle.plan_words.proofs.step.put_tasks.Given as goal
 
 abbrev pub invariant-loop-k : goal.invariant-loop-k
 invariant-loop-k l = (l.k ≤ most_tasks) × (length l.initial.out ≡ task_size * most_tasks) × Laid l.initial.out 0 (task_size * l.k) (joined (λ j. task_line (task_at l.plan j)) l.k) l.out
+
+abbrev pub decreases-loop-k : goal.decreases-loop-k
+decreases-loop-k l = most_tasks - l.k

@@ -11,3 +11,6 @@ use Rattle.plan_words.proofs.step.put_votes.Given as goal
 
 abbrev pub invariant-loop-g : goal.invariant-loop-g
 invariant-loop-g l = (l.g ≤ most_frames) × (length l.initial.out ≡ most_frames) × (l.out ≡ fill (λ x. number_of_bits (λ c. get_or l.voted (vote_place x c) false) most_cells) l.g l.initial.out)
+
+abbrev pub decreases-loop-g : goal.decreases-loop-g
+decreases-loop-g l = most_frames - l.g

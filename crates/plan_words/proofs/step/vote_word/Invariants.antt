@@ -10,3 +10,6 @@ use Rattle.plan_words.proofs.step.vote_word.Given as goal
 
 abbrev pub invariant-loop-c : goal.invariant-loop-c
 invariant-loop-c l = (l.c ≤ most_cells) × (l.word ≡ number_of_bits (λ x. get_or l.voted (vote_place l.frame x) false) l.c)
+
+abbrev pub decreases-loop-c : goal.decreases-loop-c
+decreases-loop-c l = most_cells - l.c

@@ -11,3 +11,6 @@ use Rattle.plan_words.proofs.step.votes_in.Given as goal
 
 abbrev pub invariant-loop-g : goal.invariant-loop-g
 invariant-loop-g l = (l.g ≤ most_frames) × ((i : ℕ) → i < 64 → get_or l.table i false ≡ bit (i / 4) (i % 4)) × (l.voted ≡ fill (votes_in l.words) (most_cells * l.g) l.initial.voted)
+
+abbrev pub decreases-loop-g : goal.decreases-loop-g
+decreases-loop-g l = most_frames - l.g

@@ -9,3 +9,6 @@ use Rattle.plan_words.proofs.step.votes_ok.Given as goal
 
 abbrev pub invariant-loop-g : goal.invariant-loop-g
 invariant-loop-g l = (l.g ≤ most_frames) × (all_below (vote_words l.words) l.g ≡ true)
+
+abbrev pub decreases-loop-g : goal.decreases-loop-g
+decreases-loop-g l = most_frames - l.g

@@ -20,6 +20,7 @@ use Rattle.row_word.specs.Code.{heard_word}
 use Rattle.row_vote.proofs.PutLaws.{column_apart}
 use Rattle.row_vote.proofs.HeardLaws.{counted-old, takes-if}
 use Rattle.row_vote.proofs.step.cell_each.Goals as goal
+use Rattle.row_vote.proofs.step.cell_each.Goals.{else-is_bad-is_voted, then-is_bad-is_voted}
 
 pub loop-i-init : goal.loop-i-init
 loop-i-init c =
@@ -57,35 +58,35 @@ loop-i-preserved c =
     let bin : ℕ → ℕ → Option ℕ = λ k. heard_word a.s a.mask a.faults.now (λ j. get_or a.words.now j 0) (suc a.c) k in
     let x : ℕ → ℕ = λ k. Option.get_or (majority (bin k) a.s.nodes) (get_or a.cells.now (place k) 0) in
     let count : ℕ → ℕ = λ k. agreement (bin k) a.s.nodes in
-    ⊎_elim
-    (λ w.
-    let t = takes-if a.voted.now a.mask (λ k. get_or a.frames.now k 0) a.c l.i c.is_bad.ensures c.is_voted.ensures w.0.taken in
-    let packs = rw (add-one a.c) at w.1.ensures in
-    let at : w.5.result ≡ place l.i = w.5.ensures ∙ ap (λ (r : ℕ). word_place r a.c) (add-one l.i) in (
-      search rules,
-      i.1,
-      i.2,
-      i.3,
-      rw w.12
-          (put-taken place (column_apart a.c) take x a.cells.now l.i i.4
-          t
-          at
-          (omega (arith, w.5.ensures, i.1, i.2, i.3, c.loop-i-test.true))
-          (counted-old (bin l.i) a.s.nodes packs w.4.ensures
-          (ap (λ (k : ℕ). get_or l.cells k 0) at ∙ put-still place (column_apart a.c) take x a.cells.now l.i i.4)
-          w.7.ensures)),
-      w.13 ∙ w.11.ensures ∙ least-taken take count a.low l.i i.5 t (packs-agreement (bin l.i) a.s.nodes packs w.4.ensures w.10.ensures),
-    ))
-    (λ w.
-    let t = takes-if a.voted.now a.mask (λ k. get_or a.frames.now k 0) a.c l.i c.is_bad.ensures c.is_voted.ensures w.0.left in (
-      search rules,
-      i.1,
-      i.2,
-      i.3,
-      rw w.1 (put-left place (column_apart a.c) take x a.cells.now l.i i.4 t),
-      w.2 ∙ least-left take count a.low l.i i.5 t,
-    ))
-    c.if-is_bad-is_voted.branch
+    elim c.if-is_bad-is_voted.branch [
+      | then-is_bad-is_voted w ↦
+          let t = takes-if a.voted.now a.mask (λ k. get_or a.frames.now k 0) a.c l.i c.is_bad.ensures c.is_voted.ensures w.if-is_bad-is_voted.true in
+          let packs = rw (add-one a.c) at w.heard-all.ensures in
+          let at : w.word_place-at.result ≡ place l.i = w.word_place-at.ensures ∙ ap (λ (r : ℕ). word_place r a.c) (add-one l.i) in (
+            search rules,
+            i.1,
+            i.2,
+            i.3,
+            rw w.cells-is
+                (put-taken place (column_apart a.c) take x a.cells.now l.i i.4
+                t
+                at
+                (omega (arith, w.word_place-at.ensures, i.1, i.2, i.3, c.loop-i-test.true))
+                (counted-old (bin l.i) a.s.nodes packs w.majority-v.ensures
+                (ap (λ (k : ℕ). get_or l.cells k 0) at ∙ put-still place (column_apart a.c) take x a.cells.now l.i i.4)
+                w.or_old.ensures)),
+            w.agreed-is ∙ w.min-agreed.ensures ∙ least-taken take count a.low l.i i.5 t (packs-agreement (bin l.i) a.s.nodes packs w.majority-v.ensures w.agreement.ensures),
+          )
+      | else-is_bad-is_voted w ↦
+          let t = takes-if a.voted.now a.mask (λ k. get_or a.frames.now k 0) a.c l.i c.is_bad.ensures c.is_voted.ensures w.if-is_bad-is_voted.false in (
+            search rules,
+            i.1,
+            i.2,
+            i.3,
+            rw w.cells-is (put-left place (column_apart a.c) take x a.cells.now l.i i.4 t),
+            w.agreed-is ∙ least-left take count a.low l.i i.5 t,
+          )
+    ]
 
 pub shape_of-cells : goal.shape_of-cells
 shape_of-cells c = c.loop-i.invariant.4.size

@@ -10,7 +10,9 @@ use Rattle.row_word.specs.Code.{is_good}
 use Rattle.row_counter.proofs.PutLaws.{put-none, put-taken, put-left, put_all}
 use Rattle.row_word.proofs.HeardLaws.{good-if}
 use Rattle.row_vote.proofs.PutLaws.{column_apart}
+use mathlib.Core.Bool.{not}
 use Rattle.row_vote.proofs.step.hand_to_all.Goals as goal
+use Rattle.row_vote.proofs.step.hand_to_all.Goals.{else-not-is_bad, then-not-is_bad}
 
 pub loop-j-init : goal.loop-j-init
 loop-j-init c =
@@ -28,25 +30,25 @@ loop-j-preserved c =
     let l = c.loop-j in
     let i = l.invariant in
     let place : ℕ → ℕ = λ k. word_place (suc k) a.c in
-    ⊎_elim
-    (λ w. (
-      search rules,
-      i.1,
-      i.2,
-      i.3,
-      rw w.2
-          (put-taken place (column_apart a.c) (is_good a.mask) (λ k. a.x) a.cells.now l.j i.4 (good-if a.mask l.j c.is_bad.ensures w.0.taken)
-          (w.1.ensures ∙ ap (λ (r : ℕ). word_place r a.c) (add-one l.j))
-          (omega (arith, w.1.ensures, i.1, i.2, i.3, c.loop-j-test.true)) refl),
-    ))
-    (λ w. (
-      search rules,
-      i.1,
-      i.2,
-      i.3,
-      rw w.1 (put-left place (column_apart a.c) (is_good a.mask) (λ k. a.x) a.cells.now l.j i.4 (good-if a.mask l.j c.is_bad.ensures w.0.left)),
-    ))
-    c.if-not-is_bad.branch
+    elim c.if-not-is_bad.branch [
+      | then-not-is_bad w ↦ (
+        search rules,
+        i.1,
+        i.2,
+        i.3,
+        rw w.cells-is
+            (put-taken place (column_apart a.c) (is_good a.mask) (λ k. a.x) a.cells.now l.j i.4 (good-if a.mask l.j c.is_bad.ensures (ap not w.if-not-is_bad.true))
+            (w.word_place.ensures ∙ ap (λ (r : ℕ). word_place r a.c) (add-one l.j))
+            (omega (arith, w.word_place.ensures, i.1, i.2, i.3, c.loop-j-test.true)) refl),
+      )
+      | else-not-is_bad w ↦ (
+        search rules,
+        i.1,
+        i.2,
+        i.3,
+        rw w.cells-is (put-left place (column_apart a.c) (is_good a.mask) (λ k. a.x) a.cells.now l.j i.4 (good-if a.mask l.j c.is_bad.ensures (ap not w.if-not-is_bad.false))),
+      )
+    ]
 
 pub shape_of-cells : goal.shape_of-cells
 shape_of-cells c = c.loop-j.invariant.4.size

@@ -22,7 +22,7 @@ returns-then-one-lt-FRAMES c =
     let frame : (i : ℕ) → i < a.s.nodes → bit a.mask i ≡ false → v.result.frame ≡ frame_before a.s.frames (counter_after a.s a.mask a.faults.now a.counters.now i) =
     λ i l t. frame-agreed a.s a.mask a.faults.now a.counters.now v.ensures.0 c.if-one-lt-FRAMES.true i in
     let good = agreed-good a.s a.mask a.counters.now v.ensures.0 c.if-one-lt-FRAMES.true in (
-      rows-voted a.voted.now a.s a.mask a.faults.now q.0.nodes q.0.cells a.counters.now a.cells.now _ c.vote_one.new.1.1.1.1.1.1.0 q.6 (c.vote_one.auto.1.1.1.1.1.1.0 ∙ q.6)
+      rows-voted a.voted.now a.s a.mask a.faults.now q.0.nodes q.0.cells a.counters.now a.cells.now _ c.vote_one.new.cells q.6 (c.vote_one.auto.cells ∙ q.6)
           sent (λ i. v.result.frame) c.frames_before-sent.ensures.0 frame v.ensures.1 c.vote_one.ensures.0,
       c.vote_one.ensures.1
           ∙ rows-agreed a.voted.now a.s a.mask a.faults.now a.counters.now a.cells.now sent (λ i. v.result.frame) c.frames_before-sent.ensures.0 frame
@@ -41,7 +41,7 @@ returns c =
     let own : ℕ → ℕ = λ i. get_or c.frames_before-frames.result i 0 in
     let frame : (i : ℕ) → i < a.s.nodes → bit a.mask i ≡ false → own i ≡ frame_before a.s.frames (counter_after a.s a.mask a.faults.now a.counters.now i) =
     λ i l t. c.frames_before-frames.ensures.0 i l ∙ ap (frame_before a.s.frames) (v.ensures.1.here i l (rw t)) in (
-      rows-voted a.voted.now a.s a.mask a.faults.now q.0.nodes q.0.cells a.counters.now a.cells.now _ c.vote_each-agreement.new.1.1.1.1.1.1.0 q.6 (c.vote_each-agreement.auto.1.1.1.1.1.1.0 ∙ q.6)
+      rows-voted a.voted.now a.s a.mask a.faults.now q.0.nodes q.0.cells a.counters.now a.cells.now _ c.vote_each-agreement.new.cells q.6 (c.vote_each-agreement.auto.cells ∙ q.6)
           sent own c.frames_before-sent.ensures.0 frame v.ensures.1 c.vote_each-agreement.ensures.0,
       rows-least a.voted.now a.s a.mask a.faults.now a.counters.now a.cells.now sent own c.frames_before-sent.ensures.0 frame v.ensures.2
           c.vote_each-agreement.ensures.1 c.of_good.ensures,

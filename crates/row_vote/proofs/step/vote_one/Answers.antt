@@ -18,6 +18,7 @@ use Rattle.row_vote.proofs.PutLaws.{takes_one}
 use Rattle.row_vote.proofs.VoteLaws.{Voting, voting-none, voting-next, voting-skip, agreement-still}
 use Rattle.row_vote.proofs.AgreementLaws.{columns-none, columns-next, columns-skip}
 use Rattle.row_vote.proofs.step.vote_one.Goals as goal
+use Rattle.row_vote.proofs.step.vote_one.Goals.{else-is_voted, then-is_voted}
 
 pub loop-c-init : goal.loop-c-init
 loop-c-init c =
@@ -40,33 +41,33 @@ loop-c-preserved c =
     let a = c.args in
     let narrow : l.c < most_cells = omega (arith, i.1, c.loop-c-test.true) in
     let sent : ℕ → ℕ = λ j. get_or a.sent.now j 0 in
-    ⊎_elim
-    (λ w.
-    let v : voted_at a.voted.now a.one l.c ≡ true = sym c.is_voted.ensures ∙ w.0.taken in (
-      search rules,
-      i.1,
-      ap length w.5 ∙ w.2.ensures.0.size ∙ i.2,
-      rw w.5
-          (voting-next a.voted.now a.s a.mask a.faults.now sent (λ k. a.one) a.cells.now l.c narrow l.cells i.3 _
-          (put_same (λ k. word_place (suc k) l.c) (is_good a.mask) (takes a.voted.now a.mask (λ k. a.one) l.c) _ (word_after a.voted.now a.s a.mask a.faults.now sent l.cells l.c) a.s.nodes l.cells _
-          (λ j k. takes_one a.voted.now a.mask a.one l.c j v) (λ j k t. refl) w.2.ensures.0)),
-      w.6 ∙ columns-next a.voted.now a.s a.mask a.faults.now sent (λ k. a.one) a.cells.now a.low l.c i.4
-          (w.2.ensures.1
-          ∙ ap (lesser l.agreed)
-          (least-same (is_good a.mask) (takes a.voted.now a.mask (λ k. a.one) l.c) _ _ a.s.nodes (λ j k. takes_one a.voted.now a.mask a.one l.c j v)
-          (λ j k t. agreement-still a.voted.now a.s a.mask a.faults.now sent (λ k. a.one) a.cells.now l.c narrow l.cells i.3 j))),
-    ))
-    (λ w.
-    let v : voted_at a.voted.now a.one l.c ≡ false = sym c.is_voted.ensures ∙ w.0.left in (
-      search rules,
-      i.1,
-      ap length w.1 ∙ i.2,
-      rw w.1
-          (voting-skip a.voted.now a.s a.mask a.faults.now sent (λ k. a.one) a.cells.now l.c narrow l.cells i.3
-          (λ j k. rw v (and-false-right (is_good a.mask j) refl))),
-      w.2 ∙ columns-skip a.voted.now a.s a.mask a.faults.now sent (λ k. a.one) a.cells.now a.low l.c i.4 (λ j k. rw v (and-false-right (is_good a.mask j) refl)),
-    ))
-    c.if-is_voted.branch
+    elim c.if-is_voted.branch [
+      | then-is_voted w ↦
+          let v : voted_at a.voted.now a.one l.c ≡ true = sym c.is_voted.ensures ∙ w.if-is_voted.true in (
+            search rules,
+            i.1,
+            ap length w.cells-is ∙ w.vote_cell-agreed.ensures.0.size ∙ i.2,
+            rw w.cells-is
+                (voting-next a.voted.now a.s a.mask a.faults.now sent (λ k. a.one) a.cells.now l.c narrow l.cells i.3 _
+                (put_same (λ k. word_place (suc k) l.c) (is_good a.mask) (takes a.voted.now a.mask (λ k. a.one) l.c) _ (word_after a.voted.now a.s a.mask a.faults.now sent l.cells l.c) a.s.nodes l.cells _
+                (λ j k. takes_one a.voted.now a.mask a.one l.c j v) (λ j k t. refl) w.vote_cell-agreed.ensures.0)),
+            w.agreed-is ∙ columns-next a.voted.now a.s a.mask a.faults.now sent (λ k. a.one) a.cells.now a.low l.c i.4
+                (w.vote_cell-agreed.ensures.1
+                ∙ ap (lesser l.agreed)
+                (least-same (is_good a.mask) (takes a.voted.now a.mask (λ k. a.one) l.c) _ _ a.s.nodes (λ j k. takes_one a.voted.now a.mask a.one l.c j v)
+                (λ j k t. agreement-still a.voted.now a.s a.mask a.faults.now sent (λ k. a.one) a.cells.now l.c narrow l.cells i.3 j))),
+          )
+      | else-is_voted w ↦
+          let v : voted_at a.voted.now a.one l.c ≡ false = sym c.is_voted.ensures ∙ w.if-is_voted.false in (
+            search rules,
+            i.1,
+            ap length w.cells-is ∙ i.2,
+            rw w.cells-is
+                (voting-skip a.voted.now a.s a.mask a.faults.now sent (λ k. a.one) a.cells.now l.c narrow l.cells i.3
+                (λ j k. rw v (and-false-right (is_good a.mask j) refl))),
+            w.agreed-is ∙ columns-skip a.voted.now a.s a.mask a.faults.now sent (λ k. a.one) a.cells.now a.low l.c i.4 (λ j k. rw v (and-false-right (is_good a.mask j) refl)),
+          )
+    ]
 
 pub shape_of-cells : goal.shape_of-cells
 shape_of-cells c = c.loop-c.invariant.2 ∙ sym c.requires.3
