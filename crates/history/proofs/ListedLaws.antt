@@ -48,9 +48,9 @@ module _ {A : Type 0} where
   joined_in : {x : A} (f : ℕ → List A) (n : ℕ) → Memᴰ x (joined f n) → (i : ℕ) × (i < n) × Memᴰ x (f i)
   unfolding joined
   joined_in f zero m = absurd (mathlib.Core.List.Memᴰ.not-nil m)
-  joined_in f (suc n) m =
+  joined_in {x} f (suc n) m =
       ⊎_elim
-      (λ a. let r = joined_in f n a in (r.0, omega (arith, r.1), r.2))
+      (λ (a : Memᴰ x (joined f n)). let r : (i : ℕ) × (i < n) × Memᴰ x (f i) = joined_in f n a in (r.0, omega (arith, r.1), r.2))
       (λ b. (n, omega arith, b))
       (mathlib.Core.List.Memᴰ.append_cases (joined f n) m)
 

@@ -1,5 +1,6 @@
 -- `count_calls::equal` meets its contract: an answer for each way out.
-use mathlib.Core.Path.{refl, ◌∙◌}
+use mathlib.Core.Path.{refl, ap, ◌∙◌}
+use mathlib.Core.Bool.{not}
 use borrow.Author.Rules.{rules}
 use Rattle.plan_period.proofs.AnswerLaws.{accepted-period, accepted-of-period, refused-of-period}
 use Rattle.plan.proofs.AcceptedLaws.{shape-of-accepted}
@@ -21,7 +22,7 @@ returns-then-not-counts_ok c =
     let a = c.args in
     let ok = accepted-of-period _ r.ensures c.if-period-eq0.false in
     let tests = counts-are a.plan a.system 0 (r.ensures ∙ accepted-period _ ok) c.counts_ok.ensures in
-    equal-counts _ _ _ ok (refused-test tests c.if-not-counts_ok.true)
+    equal-counts _ _ _ ok (refused-test tests (ap not c.if-not-counts_ok.true))
 
 pub equal-count-requires : goal.equal-count-requires
 equal-count-requires c =
@@ -34,5 +35,5 @@ returns c =
     let a = c.args in
     let ok = accepted-of-period _ r.ensures c.if-period-eq0.false in
     let tests = counts-are a.plan a.system 0 (r.ensures ∙ accepted-period _ ok) c.counts_ok.ensures in
-    equal-done _ _ _ ok (passed-test tests c.if-not-counts_ok.false)
+    equal-done _ _ _ ok (passed-test tests (ap not c.if-not-counts_ok.false))
     (c.equal-count.ensures ∙ equal_is a.plan a.system a.memory _ _ _ _ a.plan.nodes c.unpack.ensures.0 (c.unpack.ensures.1 ∙ c.put_memory.ensures.here) refl (shape-of-accepted _ ok).nodes-high)

@@ -1,5 +1,6 @@
 -- `count_calls::working` meets its contract: an answer for each way out.
-use mathlib.Core.Path.{◌∙◌}
+use mathlib.Core.Path.{ap, ◌∙◌}
+use mathlib.Core.Bool.{not}
 use Rattle.plan_period.proofs.AnswerLaws.{accepted-period, accepted-of-period, refused-of-period}
 use Rattle.plan.proofs.AcceptedLaws.{shape-of-accepted}
 use Rattle.array.proofs.TestLaws.{refused-test, passed-test}
@@ -22,7 +23,7 @@ returns-then-not-mask_ok-counts_ok c =
     let a = c.args in
     let ok = accepted-of-period _ r.ensures c.if-period-eq0.false in
     let tests = mask-are a.plan a.system a.mask (r.ensures ∙ accepted-period _ ok) c.mask_ok.ensures c.counts_ok.ensures in
-    working-mask _ _ _ ok (refused-test tests c.if-not-mask_ok-counts_ok.true)
+    working-mask _ _ _ ok (refused-test tests (ap not c.if-not-mask_ok-counts_ok.true))
 
 pub working-count-requires : goal.working-count-requires
 working-count-requires c = (shape-of-accepted _ (accepted-of-period _ c.accepted_period-period.ensures c.if-period-eq0.false)).nodes-high
@@ -33,4 +34,4 @@ returns c =
     let a = c.args in
     let ok = accepted-of-period _ r.ensures c.if-period-eq0.false in
     let tests = mask-are a.plan a.system a.mask (r.ensures ∙ accepted-period _ ok) c.mask_ok.ensures c.counts_ok.ensures in
-    working-done _ _ _ ok (passed-test tests c.if-not-mask_ok-counts_ok.false) (r.ensures ∙ accepted-period _ ok) c.working-count.ensures
+    working-done _ _ _ ok (passed-test tests (ap not c.if-not-mask_ok-counts_ok.false)) (r.ensures ∙ accepted-period _ ok) c.working-count.ensures
