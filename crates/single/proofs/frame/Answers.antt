@@ -2,7 +2,7 @@
 use mathlib.Core.Bool.{◌&&◌}
 use lib.Dec.{eqb}
 use lib.ListN.{length}
-use borrow.Author.Tests.{not-true, not-false, eqb-true}
+use borrow.Author.Tests.{eqb-true}
 use Rattle.array.proofs.TestLaws.{and_left, and_right}
 use Rattle.plan_period.proofs.AnswerLaws.{accepted-of-period, refused-of-period}
 use Rattle.single.proofs.CallLaws.{single-plan, single-length, single-done}
@@ -15,20 +15,20 @@ pub returns-then-not-sensors-wanted : goal.returns-then-not-sensors-wanted
 returns-then-not-sensors-wanted c =
     let a = c.args in
     let ok = accepted-of-period _ c.accepted_period.ensures c.if-accepted_period-eq0.false in
-    single-length _ _ _ _ ok (not-true (eqb (length a.sensors.now) a.plan.sensors && eqb (length a.place.now) a.plan.actuators) c.if-not-sensors-wanted.true)
+    single-length _ _ _ _ ok (c.if-not-sensors-wanted.true)
 
 pub compute-next-requires : goal.compute-next-requires
 compute-next-requires c =
     let a = c.args in
-    (accepted-of-period _ c.accepted_period.ensures c.if-accepted_period-eq0.false, eqb-true _ _ (and_left (eqb (length a.sensors.now) a.plan.sensors) _ (not-false (eqb (length a.sensors.now) a.plan.sensors && eqb (length a.place.now) a.plan.actuators) c.if-not-sensors-wanted.false)))
+    (accepted-of-period _ c.accepted_period.ensures c.if-accepted_period-eq0.false, eqb-true _ _ (and_left (eqb (length a.sensors.now) a.plan.sensors) _ (c.if-not-sensors-wanted.false)))
 
 pub setpoints-requires : goal.setpoints-requires
 setpoints-requires c =
     let a = c.args in
-    (accepted-of-period _ c.accepted_period.ensures c.if-accepted_period-eq0.false, eqb-true _ _ (and_right (eqb (length a.sensors.now) a.plan.sensors) _ (not-false (eqb (length a.sensors.now) a.plan.sensors && eqb (length a.place.now) a.plan.actuators) c.if-not-sensors-wanted.false)))
+    (accepted-of-period _ c.accepted_period.ensures c.if-accepted_period-eq0.false, eqb-true _ _ (and_right (eqb (length a.sensors.now) a.plan.sensors) _ (c.if-not-sensors-wanted.false)))
 
 pub returns : goal.returns
 returns c =
     let a = c.args in
     let ok = accepted-of-period _ c.accepted_period.ensures c.if-accepted_period-eq0.false in
-    single-done _ _ _ _ ok (not-false (eqb (length a.sensors.now) a.plan.sensors && eqb (length a.place.now) a.plan.actuators) c.if-not-sensors-wanted.false) c.compute-next.ensures c.setpoints.ensures
+    single-done _ _ _ _ ok (c.if-not-sensors-wanted.false) c.compute-next.ensures c.setpoints.ensures

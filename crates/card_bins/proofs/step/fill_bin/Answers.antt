@@ -6,8 +6,8 @@ use lib.ListN.{length, length-set}
 use Rattle.card_bins.proofs.StoreLaws.{filled_is, filled-length}
 use Rattle.card_bins.proofs.step.fill_bin.Goals as goal
 
-pub UNKNOWN-slice-bounds-copy-bytes-end : goal.UNKNOWN-slice-bounds-copy-bytes-end
-UNKNOWN-slice-bounds-copy-bytes-end c = omega (arith, c.slot_at-at.ensures, c.message_size.ensures, c.requires.2, length-set c.args.bins.now c.slot_at-at.result 1)
+pub slice_bounds-copy_bytes-end : goal.slice_bounds-copy_bytes-end
+slice_bounds-copy_bytes-end c = omega (arith, c.slot_at-at.ensures, c.message_size.ensures, c.requires.2, length-set c.args.bins.now c.slot_at-at.result 1)
 
 pub returns : goal.returns
 returns c =

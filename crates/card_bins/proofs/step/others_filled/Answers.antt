@@ -1,6 +1,6 @@
 -- `card_bins::step::others_filled` meets its contract: the first j pass the test.
 use mathlib.Core.Path.{sym, ap}
-use mathlib.Core.Bool.{true, ◌||◌}
+use mathlib.Core.Bool.{true, not, ◌||◌}
 use Prim.Native.Nat.{◌-◌}
 use native.Mathlib.Omega.{arith}
 use lib.Dec.{eqb}
@@ -21,12 +21,12 @@ pub returns-then-not-j-number : goal.returns-then-not-j-number
 returns-then-not-j-number c =
     sym
     (all_below-fails (λ i. eqb i c.args.number || is_filled c.args.cells c.args.bins.now i) _ c.loop-j.j c.loop-j-test.true
-    (refused-test (ap (λ b. eqb c.loop-j.j c.args.number || b) c.is_filled.ensures) c.if-not-j-number.true))
+    (refused-test (ap (λ b. eqb c.loop-j.j c.args.number || b) c.is_filled.ensures) (ap not c.if-not-j-number.true)))
 
 pub loop-j-preserved : goal.loop-j-preserved
 loop-j-preserved c = (
   omega arith,
-  all_below-more _ c.loop-j.j c.loop-j.invariant.1 (passed-test (ap (λ b. eqb c.loop-j.j c.args.number || b) c.is_filled.ensures) c.if-not-j-number.false),
+  all_below-more _ c.loop-j.j c.loop-j.invariant.1 (passed-test (ap (λ b. eqb c.loop-j.j c.args.number || b) c.is_filled.ensures) (ap not c.if-not-j-number.false)),
 )
 
 pub returns : goal.returns

@@ -11,8 +11,8 @@ use Rattle.card_bins.proofs.step.vote_with.Goals as goal
 pub mailbox-requires : goal.mailbox-requires
 mailbox-requires c = (c.requires.0, c.requires.3, c.requires.4, most-mailbox c.requires.0 c.requires.3)
 
-pub UNKNOWN-slice-bounds-vote-with-end : goal.UNKNOWN-slice-bounds-vote-with-end
-UNKNOWN-slice-bounds-vote-with-end c = omega (arith, c.bin_at-size.ensures, (front-taken (replicate 1806 0) (mailbox_in c.args.cells c.args.nodes c.args.bins.now) _ (mailbox-length c.args.cells c.args.bins.now c.args.nodes) (most-mailbox c.requires.0 c.requires.3) c.mailbox.ensures).0)
+pub slice_bounds-vote_with-end : goal.slice_bounds-vote_with-end
+slice_bounds-vote_with-end c = omega (arith, c.bin_at-size.ensures, (front-taken (replicate 1806 0) (mailbox_in c.args.cells c.args.nodes c.args.bins.now) _ (mailbox-length c.args.cells c.args.bins.now c.args.nodes) (most-mailbox c.requires.0 c.requires.3) c.mailbox.ensures).0)
 
 pub returns : goal.returns
 returns c p e f g h =

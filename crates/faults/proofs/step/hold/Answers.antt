@@ -12,6 +12,7 @@ use Rattle.plan.specs.Limits.{most_nodes}
 use Rattle.memory.proofs.StepLaws.{bin-ends}
 use Rattle.faults.proofs.LayoutLaws.{most_part, times-most, part-most, held_same, filled-length, filled-held, held_now, held_none, held_next, held_kept}
 use Rattle.faults.proofs.step.hold.Goals as goal
+use Rattle.faults.proofs.step.hold.Goals.{else-is_bad-held, then-is_bad-held}
 
 pub returns-then-mask-eq0 : goal.returns-then-mask-eq0
 returns-then-mask-eq0 c = (held_none c.args.mask c.args.fill c.args.held.now c.args.s.nodes c.if-mask-eq0.true, search rules, c.requires.4)
@@ -28,8 +29,8 @@ pub overflow_add-at : goal.overflow_add-at
 overflow_add-at c = let l = c.loop-j in
     omega (arith, times-most l.j c.part_size-size.result most_part (omega arith) l.invariant.2)
 
-pub UNKNOWN-slice-bounds-fill-part-end : goal.UNKNOWN-slice-bounds-fill-part-end
-UNKNOWN-slice-bounds-fill-part-end c = let l = c.loop-j in
+pub slice_bounds-fill_part-end : goal.slice_bounds-fill_part-end
+slice_bounds-fill_part-end c = let l = c.loop-j in
     omega (arith, bin-ends l.j c.part_size-size.result c.loop-j-test.true (le_refl (c.args.s.nodes * c.part_size-size.result)), l.invariant.4)
 
 pub loop-j-preserved : goal.loop-j-preserved
@@ -39,26 +40,26 @@ loop-j-preserved c = let a = c.args in
     let t : l.j < a.s.nodes = c.loop-j-test.true in
     let z : l.j * size + size - l.j * size ≡ size = omega arith in
     let n : length l.held ≡ most_nodes = ap length l.invariant.5 ∙ fill-length (held_now a.mask a.fill a.held.now) l.j a.held.now ∙ l.invariant.3 in
-    ⊎_elim
-    (λ w. (
-      omega arith,
-      l.invariant.1,
-      l.invariant.2,
-      l.invariant.3,
-      ap length w.6 ∙ filled-length a.s.nodes size l.held l.faults _ l.j a.fill refl z t l.invariant.4 w.2.ensures,
-      w.5 ∙ held_next a.mask a.fill a.held.now l.j l.invariant.5 c.is_bad.ensures _ w.0.taken,
-      held_same a.s.nodes size (filled-held a.s.nodes size l.held l.faults _ l.j a.fill refl z t l.invariant.4 w.2.ensures (omega arith) l.invariant.6) w.5 w.6,
-    ))
-    (λ w. (
-      omega arith,
-      l.invariant.1,
-      l.invariant.2,
-      l.invariant.3,
-      ap length w.2 ∙ l.invariant.4,
-      w.1 ∙ held_kept a.mask a.fill a.held.now l.j l.invariant.5 c.is_bad.ensures w.0.left,
-      held_same a.s.nodes size l.invariant.6 w.1 w.2,
-    ))
-    c.if-is_bad-held.branch
+    elim c.if-is_bad-held.branch [
+      | then-is_bad-held w ↦ (
+        omega arith,
+        l.invariant.1,
+        l.invariant.2,
+        l.invariant.3,
+        ap length w.faults-is ∙ filled-length a.s.nodes size l.held l.faults _ l.j a.fill refl z t l.invariant.4 w.fill_part.ensures,
+        w.held-is ∙ held_next a.mask a.fill a.held.now l.j l.invariant.5 c.is_bad.ensures _ w.if-is_bad-held.true,
+        held_same a.s.nodes size (filled-held a.s.nodes size l.held l.faults _ l.j a.fill refl z t l.invariant.4 w.fill_part.ensures (omega arith) l.invariant.6) w.held-is w.faults-is,
+      )
+      | else-is_bad-held w ↦ (
+        omega arith,
+        l.invariant.1,
+        l.invariant.2,
+        l.invariant.3,
+        ap length w.faults-is ∙ l.invariant.4,
+        w.held-is ∙ held_kept a.mask a.fill a.held.now l.j l.invariant.5 c.is_bad.ensures w.if-is_bad-held.false,
+        held_same a.s.nodes size l.invariant.6 w.held-is w.faults-is,
+      )
+    ]
 
 pub shape_of-faults : goal.shape_of-faults
 shape_of-faults c = c.loop-j.invariant.4 ∙ rw c.part_size-size.ensures (sym c.requires.3)

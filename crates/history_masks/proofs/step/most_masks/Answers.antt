@@ -22,4 +22,4 @@ pub returns-in-5 : goal.returns-in-5
 returns-in-5 c = subst (λ (n : ℕ). Most n 18290559) (sym c.in-5.is) most-five
 
 pub returns-in_default : goal.returns-in_default
-returns-in_default c = let none : c.args.nodes ≡ 0 = omega (arith, c.requires, c.in-1.rest) in subst (λ (n : ℕ). Most n 0) (sym none) most-none
+returns-in_default c = let none : c.args.nodes ≡ 0 = omega arith in subst (λ (n : ℕ). Most n 0) (sym none) most-none

@@ -10,6 +10,7 @@ use Rattle.array.proofs.IndexLaws.{how_many-none, how_many-bound}
 use Rattle.array.proofs.LoopLaws.{counted-hit, counted-miss, counted-all}
 use Rattle.history_masks.proofs.CodeLaws.{mask-in, mask-out, masks-few}
 use Rattle.history_search.proofs.step.count_last.Goals as goal
+use Rattle.history_search.proofs.step.count_last.Goals.{then-most_work, else-most_work}
 
 pub overflow_shl-masks : goal.overflow_shl-masks
 overflow_shl-masks c = omega (arith, c.requires.0)
@@ -41,10 +42,7 @@ pub loop-mask-preserved : goal.loop-mask-preserved
 loop-mask-preserved c =
     let now = c.loop-mask in
     let q : ℕ → Bool = λ m. bit c.args.most (bit_or c.args.bad m) in (
-      ⊎_elim
-          (λ h. h.1 ∙ counted-hit q now.mask now.invariant.0 (sym c.most_work.ensures ∙ h.0.taken))
-          (λ h. h.1 ∙ counted-miss q now.mask now.invariant.0 (sym c.most_work.ensures ∙ h.0.left))
-          c.if-most_work.branch,
+      elim c.if-most_work.branch [ then-most_work h ↦ h.total-is ∙ counted-hit q now.mask now.invariant.0 (sym c.most_work.ensures ∙ h.if-most_work.true) | else-most_work h ↦ h.total-is ∙ counted-miss q now.mask now.invariant.0 (sym c.most_work.ensures ∙ h.if-most_work.false) ],
       omega (arith, mask-in c.args.nodes now.mask c.requires.0 c.loop-mask-test.true),
     )
 

@@ -12,6 +12,7 @@ use Rattle.array.proofs.PlacedLaws.{placed-none, placed-length, placed-next}
 use Rattle.history_masks.specs.Code.{last_bytes}
 use Rattle.history_masks.proofs.CodeLaws.{mask-in, mask-out, masks-few, last-begin, last_within, last-hit, last-miss, last-longer}
 use Rattle.history_search.proofs.step.put_last.Goals as goal
+use Rattle.history_search.proofs.step.put_last.Goals.{then-most_work, else-most_work}
 
 pub overflow_shl-masks : goal.overflow_shl-masks
 overflow_shl-masks c = omega (arith, c.requires.0)
@@ -56,7 +57,7 @@ overflow_add-end c =
     let t = sym c.most_work.ensures ∙ c.if-most_work.true in
     omega (
       arith,
-      c.well-formed,
+      c.well_formed,
       c.requires.3,
       now.invariant.1,
       last-longer c.args.most c.args.bad c.args.past c.args.frames now.mask t,
@@ -77,17 +78,15 @@ loop-mask-preserved c =
     let l = mask-in c.args.nodes now.mask c.requires.0 c.loop-mask-test.true in
     let fits : c.args.at ≤ length c.args.out.now = omega (arith, c.requires.3) in
     let whole = last_within c.args.most c.args.bad c.args.past c.args.frames (now.mask + 1) (2 ^ c.args.nodes) (omega (arith, l)) in
-    ⊎_elim
-    (λ h.
-    let t = sym c.most_work.ensures ∙ h.0.taken in
-    let more = last-hit c.args.most c.args.bad c.args.past c.args.frames now.mask t in
-    let laid = h.5 ∙ h.2.ensures ∙ placed-next c.args.out.now c.args.at (last_bytes c.args.most c.args.bad c.args.past c.args.frames now.mask) now.out (bytes c.args.frames (c.args.past * 256 + now.mask)) now.end now.invariant.0 now.invariant.1 fits ∙ ap (placed c.args.out.now c.args.at) (sym more) in
-    (laid, omega (arith, h.6, now.invariant.1, last-longer c.args.most c.args.bad c.args.past c.args.frames now.mask t), omega (arith, l), ap length laid ∙ placed-length c.args.out.now c.args.at (last_bytes c.args.most c.args.bad c.args.past c.args.frames (now.mask + 1)) (omega (arith, whole, c.requires.3))))
-    (λ h.
-    let t = sym c.most_work.ensures ∙ h.0.left in
-    let same = sym (last-miss c.args.most c.args.bad c.args.past c.args.frames now.mask t) in
-    (h.1 ∙ now.invariant.0 ∙ ap (placed c.args.out.now c.args.at) same, h.2 ∙ now.invariant.1 ∙ ap (λ (b : List ℕ). c.args.at + length b) same, omega (arith, l), ap length h.1 ∙ now.invariant.3))
-    c.if-most_work.branch
+    elim c.if-most_work.branch [
+      | then-most_work h ↦ let t = sym c.most_work.ensures ∙ h.if-most_work.true in
+          let more = last-hit c.args.most c.args.bad c.args.past c.args.frames now.mask t in
+          let laid = h.out-is ∙ h.put_masks.ensures ∙ placed-next c.args.out.now c.args.at (last_bytes c.args.most c.args.bad c.args.past c.args.frames now.mask) now.out (bytes c.args.frames (c.args.past * 256 + now.mask)) now.end now.invariant.0 now.invariant.1 fits ∙ ap (placed c.args.out.now c.args.at) (sym more) in
+          (laid, omega (arith, h.end-is, now.invariant.1, last-longer c.args.most c.args.bad c.args.past c.args.frames now.mask t), omega (arith, l), ap length laid ∙ placed-length c.args.out.now c.args.at (last_bytes c.args.most c.args.bad c.args.past c.args.frames (now.mask + 1)) (omega (arith, whole, c.requires.3)))
+      | else-most_work h ↦ let t = sym c.most_work.ensures ∙ h.if-most_work.false in
+          let same = sym (last-miss c.args.most c.args.bad c.args.past c.args.frames now.mask t) in
+          (h.out-is ∙ now.invariant.0 ∙ ap (placed c.args.out.now c.args.at) same, h.end-is ∙ now.invariant.1 ∙ ap (λ (b : List ℕ). c.args.at + length b) same, omega (arith, l), ap length h.out-is ∙ now.invariant.3)
+    ]
 
 pub shape_of-out : goal.shape_of-out
 shape_of-out c = c.loop-mask.invariant.3

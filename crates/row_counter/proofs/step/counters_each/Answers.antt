@@ -16,6 +16,7 @@ use Rattle.row_word.specs.Code.{is_good, heard_word}
 use Rattle.row_counter.proofs.PutLaws.{suc_apart, put-none, put-still, put-taken, put-left, put_all}
 use Rattle.row_counter.proofs.HeardLaws.{counted-own}
 use Rattle.row_counter.proofs.step.counters_each.Goals as goal
+use Rattle.row_counter.proofs.step.counters_each.Goals.{else-not-is_bad, then-not-is_bad}
 
 pub loop-i-init : goal.loop-i-init
 loop-i-init c = (search rules, put-none suc suc_apart _ _ _, least-none _ _ _)
@@ -35,17 +36,17 @@ loop-i-preserved c =
     let count : ℕ → ℕ = λ k. agreement (bin k) a.s.nodes in
     let still = ap (λ k. get_or l.counters k 0) (add-one l.i) ∙ put-still suc suc_apart _ _ a.counters.now l.i l.invariant.1 in
     let good = ap not (sym c.is_bad.ensures) in
-    ⊎_elim
-    (λ w. (
-      search rules,
-      rw w.11 (put-taken suc suc_apart _ _ a.counters.now l.i l.invariant.1 (good ∙ w.0.taken) (add-one l.i) (omega (arith, p.3, p.0.nodes, c.loop-i-test.true)) (counted-own (bin l.i) a.s.nodes _ w.1.ensures w.4.ensures still w.6.ensures)),
-      w.12
-          ∙ w.10.ensures
-          ∙ least-taken (is_good a.mask) count a.low l.i l.invariant.2 (good ∙ w.0.taken)
-          (packs-agreement (bin l.i) a.s.nodes w.1.ensures w.4.ensures w.9.ensures),
-    ))
-    (λ w. (search rules, rw w.1 (put-left suc suc_apart _ _ a.counters.now l.i l.invariant.1 (good ∙ w.0.left)), w.2 ∙ least-left (is_good a.mask) count a.low l.i l.invariant.2 (good ∙ w.0.left)))
-    c.if-not-is_bad.branch
+    elim c.if-not-is_bad.branch [
+      | then-not-is_bad w ↦ (
+        search rules,
+        rw w.counters-is (put-taken suc suc_apart _ _ a.counters.now l.i l.invariant.1 (good ∙ (ap not w.if-not-is_bad.true)) (add-one l.i) (omega (arith, p.3, p.0.nodes, c.loop-i-test.true)) (counted-own (bin l.i) a.s.nodes _ w.heard-all.ensures w.majority-v.ensures still w.or_own.ensures)),
+        w.agreed-is
+            ∙ w.min-agreed.ensures
+            ∙ least-taken (is_good a.mask) count a.low l.i l.invariant.2 (good ∙ (ap not w.if-not-is_bad.true))
+            (packs-agreement (bin l.i) a.s.nodes w.heard-all.ensures w.majority-v.ensures w.agreement.ensures),
+      )
+      | else-not-is_bad w ↦ (search rules, rw w.counters-is (put-left suc suc_apart _ _ a.counters.now l.i l.invariant.1 (good ∙ (ap not w.if-not-is_bad.false))), w.agreed-is ∙ least-left (is_good a.mask) count a.low l.i l.invariant.2 (good ∙ (ap not w.if-not-is_bad.false)))
+    ]
 
 pub shape_of-counters : goal.shape_of-counters
 shape_of-counters c = c.loop-i.invariant.1.size

@@ -8,7 +8,10 @@ use borrow.Author.Rules.{rules}
 use Rattle.row_word.specs.Code.{is_good}
 use Rattle.row_counter.proofs.PutLaws.{suc_apart, put-none, put-taken, put-left, put_all}
 use Rattle.row_word.proofs.HeardLaws.{good-if}
+use mathlib.Core.Path.{ap}
+use mathlib.Core.Bool.{not}
 use Rattle.row_counter.proofs.step.settle_counters.Goals as goal
+use Rattle.row_counter.proofs.step.settle_counters.Goals.{else-not-is_bad, then-not-is_bad}
 
 pub loop-j-init : goal.loop-j-init
 loop-j-init c = let a = c.args in (search rules, search rules, search rules, put-none suc suc_apart (is_good a.mask) (λ i. a.counter) a.counters.now)
@@ -23,22 +26,22 @@ loop-j-preserved c =
     let a = c.args in
     let l = c.loop-j in
     let i = l.invariant in
-    ⊎_elim
-    (λ w. (
-      search rules,
-      i.1,
-      i.2,
-      rw w.1
-          (put-taken suc suc_apart (is_good a.mask) (λ k. a.counter) a.counters.now l.j i.3 (good-if a.mask l.j c.is_bad.ensures w.0.taken) (add-one l.j)
-          (omega (arith, i.1, i.2, c.loop-j-test.true)) refl),
-    ))
-    (λ w. (
-      search rules,
-      i.1,
-      i.2,
-      rw w.1 (put-left suc suc_apart (is_good a.mask) (λ k. a.counter) a.counters.now l.j i.3 (good-if a.mask l.j c.is_bad.ensures w.0.left)),
-    ))
-    c.if-not-is_bad.branch
+    elim c.if-not-is_bad.branch [
+      | then-not-is_bad w ↦ (
+        search rules,
+        i.1,
+        i.2,
+        rw w.counters-is
+            (put-taken suc suc_apart (is_good a.mask) (λ k. a.counter) a.counters.now l.j i.3 (good-if a.mask l.j c.is_bad.ensures (ap not w.if-not-is_bad.true)) (add-one l.j)
+            (omega (arith, i.1, i.2, c.loop-j-test.true)) refl),
+      )
+      | else-not-is_bad w ↦ (
+        search rules,
+        i.1,
+        i.2,
+        rw w.counters-is (put-left suc suc_apart (is_good a.mask) (λ k. a.counter) a.counters.now l.j i.3 (good-if a.mask l.j c.is_bad.ensures (ap not w.if-not-is_bad.false))),
+      )
+    ]
 
 pub shape_of-counters : goal.shape_of-counters
 shape_of-counters c = c.loop-j.invariant.3.size

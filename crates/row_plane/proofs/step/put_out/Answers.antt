@@ -11,6 +11,7 @@ use Rattle.ballot.proofs.BinLaws.{told_none, told-next}
 use Rattle.row_plane.specs.Code.{put_from}
 use Rattle.row_plane.proofs.PutLaws.{setpoint-in, put-bad, put-good}
 use Rattle.row_plane.proofs.step.put_out.Goals as goal
+use Rattle.row_plane.proofs.step.put_out.Goals.{else-is_bad, then-is_bad}
 
 pub loop-j-init : goal.loop-j-init
 loop-j-init c = let a = c.args in (search rules, search rules, search rules, told_none (put_from a.s a.mask a.faults.now a.cells.now a.cell a.a) (replicate most_nodes 0))
@@ -23,20 +24,20 @@ loop-j-preserved c = let a = c.args in
     let l = c.loop-j in
     let f = put_from a.s a.mask a.faults.now a.cells.now a.cell a.a in
     let few : l.j < length l.values = omega (arith, l.invariant.1, l.invariant.2, c.loop-j-test.true) in
-    ⊎_elim
-    (λ w. (
-      search rules,
-      l.invariant.1,
-      ap length w.3 ∙ length-set l.values _ _ ∙ l.invariant.2,
-      subst (Told f (l.j + 1)) (sym w.3) (told-next f l.values l.j _ few (put-bad a.s a.mask a.faults.now a.cells.now a.cell a.a l.j (sym c.is_bad.ensures ∙ w.0.taken) w.1.ensures w.2.ensures) l.invariant.3),
-    ))
-    (λ w. (
-      search rules,
-      l.invariant.1,
-      ap length w.2 ∙ length-set l.values _ _ ∙ l.invariant.2,
-      subst (Told f (l.j + 1)) (sym w.2) (told-next f l.values l.j _ few (put-good a.s a.mask a.faults.now a.cells.now a.cell a.a l.j (sym c.is_bad.ensures ∙ w.0.left) refl) l.invariant.3),
-    ))
-    c.if-is_bad.branch
+    elim c.if-is_bad.branch [
+      | then-is_bad w ↦ (
+        search rules,
+        l.invariant.1,
+        ap length w.values-is ∙ length-set l.values _ _ ∙ l.invariant.2,
+        subst (Told f (l.j + 1)) (sym w.values-is) (told-next f l.values l.j _ few (put-bad a.s a.mask a.faults.now a.cells.now a.cell a.a l.j (sym c.is_bad.ensures ∙ w.if-is_bad.true) w.setpoint_at.ensures w.read_be8.ensures) l.invariant.3),
+      )
+      | else-is_bad w ↦ (
+        search rules,
+        l.invariant.1,
+        ap length w.values-is ∙ length-set l.values _ _ ∙ l.invariant.2,
+        subst (Told f (l.j + 1)) (sym w.values-is) (told-next f l.values l.j _ few (put-good a.s a.mask a.faults.now a.cells.now a.cell a.a l.j (sym c.is_bad.ensures ∙ w.if-is_bad.false) refl) l.invariant.3),
+      )
+    ]
 
 pub returns : goal.returns
 returns c j h = c.loop-j.invariant.3 j (omega arith)

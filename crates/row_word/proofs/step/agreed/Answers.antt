@@ -12,7 +12,9 @@ use Rattle.ballot.specs.Majority.{holders}
 use Rattle.row_word.specs.Code.{is_good, fault_word, heard_word}
 use Rattle.row_word.proofs.HeardLaws.{good-if}
 use Rattle.row_word.proofs.AgreementLaws.{low-reached}
+use mathlib.Core.Bool.{not}
 use Rattle.row_word.proofs.step.agreed.Goals as goal
+use Rattle.row_word.proofs.step.agreed.Goals.{else-not-is_bad, then-not-is_bad}
 
 pub loop-i-init : goal.loop-i-init
 loop-i-init c = (search rules, least-none _ _ _)
@@ -29,16 +31,16 @@ loop-i-preserved c =
     let l = c.loop-i in
     let bin : ℕ → ℕ → Option ℕ = heard_word a.s a.mask a.faults.now (λ j. get_or a.words.now j 0) a.w in
     let count : ℕ → ℕ = λ k. holders (bin k) a.s.nodes a.x in
-    ⊎_elim
-    (λ w. (
-      search rules,
-      w.6
-          ∙ w.5.ensures
-          ∙ least-taken (is_good a.mask) count a.low l.i l.invariant.1 (good-if a.mask l.i c.is_bad.ensures w.0.taken)
-          (w.4.ensures ∙ w.1.ensures.alike a.x),
-    ))
-    (λ w. (search rules, w.1 ∙ least-left (is_good a.mask) count a.low l.i l.invariant.1 (good-if a.mask l.i c.is_bad.ensures w.0.left)))
-    c.if-not-is_bad.branch
+    elim c.if-not-is_bad.branch [
+      | then-not-is_bad w ↦ (
+        search rules,
+        w.agreed-is
+            ∙ w.min-agreed.ensures
+            ∙ least-taken (is_good a.mask) count a.low l.i l.invariant.1 (good-if a.mask l.i c.is_bad.ensures (ap not w.if-not-is_bad.true))
+            (w.holders.ensures ∙ w.heard-told.ensures.alike a.x),
+      )
+      | else-not-is_bad w ↦ (search rules, w.agreed-is ∙ least-left (is_good a.mask) count a.low l.i l.invariant.1 (good-if a.mask l.i c.is_bad.ensures (ap not w.if-not-is_bad.false)))
+    ]
 
 pub returns-after-loop-i : goal.returns-after-loop-i
 returns-after-loop-i c =

@@ -10,6 +10,7 @@ use Rattle.ballot.proofs.ScanLaws.{holders-none}
 use Rattle.row_word.specs.Code.{good_only}
 use Rattle.row_word.proofs.HeardLaws.{holders-alone, good-counted, good-passed}
 use Rattle.row_word.proofs.step.good_holders.Goals as goal
+use Rattle.row_word.proofs.step.good_holders.Goals.{else-is_bad-words, then-is_bad-words}
 
 pub returns-then-mask-eq0 : goal.returns-then-mask-eq0
 returns-then-mask-eq0 c =
@@ -24,10 +25,7 @@ loop-j-preserved c =
     let a = c.args in
     let l = c.loop-j in
     let w : ℕ → ℕ = λ k. get_or a.words.now k 0 in
-    ⊎_elim
-    (λ v. (search rules, omega (arith, v.1, l.invariant.1), v.1 ∙ good-counted a.mask w l.j a.x c.is_bad.ensures l.invariant.2 v.0.taken))
-    (λ v. (search rules, omega (arith, v.1, l.invariant.1), v.1 ∙ good-passed a.mask w l.j a.x c.is_bad.ensures l.invariant.2 v.0.left))
-    c.if-is_bad-words.branch
+    elim c.if-is_bad-words.branch [ then-is_bad-words v ↦ (search rules, omega (arith, v.held-is, l.invariant.1), v.held-is ∙ good-counted a.mask w l.j a.x c.is_bad.ensures l.invariant.2 v.if-is_bad-words.true) | else-is_bad-words v ↦ (search rules, omega (arith, v.held-is, l.invariant.1), v.held-is ∙ good-passed a.mask w l.j a.x c.is_bad.ensures l.invariant.2 v.if-is_bad-words.false) ]
 
 pub returns : goal.returns
 returns c =

@@ -9,7 +9,9 @@ use borrow.Author.Rules.{rules}
 use Rattle.ballot.proofs.PackedLaws.{packed_none, packed-held, packed-silent}
 use Rattle.row_word.specs.Code.{good_only}
 use Rattle.row_word.proofs.HeardLaws.{good-if, good_none, good-some}
+use mathlib.Core.Bool.{not}
 use Rattle.row_word.proofs.step.good_ones.Goals as goal
+use Rattle.row_word.proofs.step.good_ones.Goals.{else-not-is_bad, then-not-is_bad}
 
 pub loop-j-init : goal.loop-j-init
 loop-j-init c = (search rules, search rules, search rules, packed_none (good_only c.args.mask (λ i. get_or c.args.words.now i 0)) _)
@@ -22,22 +24,22 @@ loop-j-preserved c =
     let i = l.invariant in
     let word : ℕ → ℕ = λ k. get_or a.words.now k 0 in
     let bin : ℕ → Option ℕ = good_only a.mask word in
-    ⊎_elim
-    (λ w.
-    let good = good-if a.mask l.j c.is_bad.ensures w.0.taken in (
-      search rules,
-      omega (arith, w.3, i.1),
-      ap length w.2 ∙ length-set l.good _ _ ∙ i.2,
-      rw (w.2, w.3) (packed-held bin l.good l.k l.j (word l.j) (omega (arith, i.1, i.2, q, c.loop-j-test.true)) (good-some a.mask word l.j good) i.3),
-    ))
-    (λ w.
-    let bad = good-if a.mask l.j c.is_bad.ensures w.0.left in (
-      search rules,
-      omega (arith, w.2, i.1),
-      ap length w.1 ∙ i.2,
-      rw (w.1, w.2) (packed-silent bin l.good l.k l.j (good_none a.mask word l.j bad) i.3),
-    ))
-    c.if-not-is_bad.branch
+    elim c.if-not-is_bad.branch [
+      | then-not-is_bad w ↦
+          let good = good-if a.mask l.j c.is_bad.ensures (ap not w.if-not-is_bad.true) in (
+            search rules,
+            omega (arith, w.k-is, i.1),
+            ap length w.good-is ∙ length-set l.good _ _ ∙ i.2,
+            rw (w.good-is, w.k-is) (packed-held bin l.good l.k l.j (word l.j) (omega (arith, i.1, i.2, q, c.loop-j-test.true)) (good-some a.mask word l.j good) i.3),
+          )
+      | else-not-is_bad w ↦
+          let bad = good-if a.mask l.j c.is_bad.ensures (ap not w.if-not-is_bad.false) in (
+            search rules,
+            omega (arith, w.k-is, i.1),
+            ap length w.good-is ∙ i.2,
+            rw (w.good-is, w.k-is) (packed-silent bin l.good l.k l.j (good_none a.mask word l.j bad) i.3),
+          )
+    ]
 
 pub returns : goal.returns
 returns c =

@@ -1,4 +1,3 @@
--- `system_words::step::patterns` meets its contract: copied, or the first c read one by one.
 use mathlib.Core.Path.{◌≡◌}
 use Prim.Native.Nat.{◌+◌, ◌-◌, ◌≤◌}
 use lib.ListN.{length, get_or}
@@ -8,3 +7,6 @@ use Rattle.system_words.proofs.step.patterns.Given as goal
 
 abbrev pub invariant-loop-c : goal.invariant-loop-c
 invariant-loop-c l = (l.c ≤ most_cells) × (length l.cells ≡ most_cells) × (l.cells ≡ fill (λ d. get_or l.words (l.at + d) 0) l.c l.initial.cells)
+
+abbrev pub decreases-loop-c : goal.decreases-loop-c
+decreases-loop-c l = most_cells - l.c

@@ -1,4 +1,3 @@
--- `system_words::step::put_memories` meets its contract: the words of the first j memories are stored.
 use mathlib.Core.Path.{◌≡◌}
 use Prim.Native.Nat.{◌-◌, ◌≤◌}
 use Rattle.plan.specs.Limits.{most_nodes}
@@ -7,3 +6,6 @@ use Rattle.system_words.proofs.step.put_memories.Given as goal
 
 abbrev pub invariant-loop-j : goal.invariant-loop-j
 invariant-loop-j l = (l.j ≤ l.nodes) × (l.nodes ≤ most_nodes) × (l.words ≡ with_memories l.system l.j l.initial.words)
+
+abbrev pub decreases-loop-j : goal.decreases-loop-j
+decreases-loop-j l = l.nodes - l.j

@@ -1,4 +1,3 @@
--- `system_words::step::put_memory` meets its contract: the counter is stored, and the patterns are copied, or the first c stored one by one.
 use mathlib.Core.Path.{◌≡◌}
 use Prim.Native.Nat.{◌-◌, ◌≤◌}
 use lib.ListN.{get_or}
@@ -8,3 +7,6 @@ use Rattle.system_words.proofs.step.put_memory.Given as goal
 
 abbrev pub invariant-loop-c : goal.invariant-loop-c
 invariant-loop-c l = (l.c ≤ most_cells) × (l.words ≡ stored_from (λ d. get_or l.memory.cells d 0) l.first l.c l.initial.words)
+
+abbrev pub decreases-loop-c : goal.decreases-loop-c
+decreases-loop-c l = most_cells - l.c

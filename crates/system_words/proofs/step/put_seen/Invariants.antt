@@ -1,4 +1,3 @@
--- `system_words::step::put_seen` meets its contract: the first k values are stored.
 use mathlib.Core.Path.{◌≡◌}
 use Prim.Native.Nat.{◌-◌, ◌≤◌}
 use lib.ListN.{get_or}
@@ -8,3 +7,6 @@ use Rattle.system_words.proofs.step.put_seen.Given as goal
 
 abbrev pub invariant-loop-k : goal.invariant-loop-k
 invariant-loop-k l = (l.k ≤ most_actuators) × (l.words ≡ stored_from (λ a. get_or l.seen.handed a 0) handed_at l.k l.initial.words)
+
+abbrev pub decreases-loop-k : goal.decreases-loop-k
+decreases-loop-k l = most_actuators - l.k

@@ -1,4 +1,3 @@
--- `system_words::step::put_system` meets its contract: the first j counts are stored behind the memories, and behind them what is seen.
 use mathlib.Core.Path.{◌≡◌}
 use Prim.Native.Nat.{◌-◌, ◌≤◌}
 use Rattle.plan.specs.Limits.{most_nodes}
@@ -8,3 +7,6 @@ use Rattle.system_words.proofs.step.put_system.Given as goal
 
 abbrev pub invariant-loop-j : goal.invariant-loop-j
 invariant-loop-j l = (l.j ≤ l.nodes) × (l.nodes ≤ most_nodes) × (l.words ≡ stored_from (good_of l.system) good_at l.j l.initial.words)
+
+abbrev pub decreases-loop-j : goal.decreases-loop-j
+decreases-loop-j l = l.nodes - l.j

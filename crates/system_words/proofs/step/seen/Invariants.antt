@@ -1,4 +1,3 @@
--- `system_words::step::seen` meets its contract: the first a values are read.
 use mathlib.Core.Path.{◌≡◌}
 use Prim.Native.Nat.{◌+◌, ◌-◌, ◌≤◌}
 use lib.ListN.{get_or, replicate}
@@ -9,3 +8,6 @@ use Rattle.system_words.proofs.step.seen.Given as goal
 
 abbrev pub invariant-loop-a : goal.invariant-loop-a
 invariant-loop-a l = (l.a ≤ most_actuators) × (l.handed ≡ fill (λ i. get_or l.words (handed_at + i) 0) l.a (replicate most_actuators 0))
+
+abbrev pub decreases-loop-a : goal.decreases-loop-a
+decreases-loop-a l = most_actuators - l.a

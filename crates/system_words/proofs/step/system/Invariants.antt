@@ -1,4 +1,3 @@
--- `system_words::step::system` meets its contract: the first j memories and counts are read, then what is seen.
 use mathlib.Core.Path.{◌≡◌}
 use Prim.Native.Nat.{◌-◌, ◌≤◌}
 use Rattle.array.specs.Index.{fill}
@@ -8,3 +7,6 @@ use Rattle.system_words.proofs.step.system.Given as goal
 
 abbrev pub invariant-loop-j : goal.invariant-loop-j
 invariant-loop-j l = (l.j ≤ most_nodes) × (l.memories ≡ fill (λ i. memory_at l.words (node_at i)) l.j l.initial.memories) × (l.good ≡ fill (good_in l.words) l.j l.initial.good)
+
+abbrev pub decreases-loop-j : goal.decreases-loop-j
+decreases-loop-j l = most_nodes - l.j
