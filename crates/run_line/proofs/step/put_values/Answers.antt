@@ -31,12 +31,12 @@ put-requires-2 c =
 pub bounds-out-at : goal.bounds-out-at
 bounds-out-at c =
     let v : ℕ → ℕ = λ k. get_or c.args.values.now k 0 in
-    omega (arith, c.put-2.auto.0, columns-size v c.args.out.now c.loop-a.out c.loop-a.a c.loop-a.invariant.1 (omega (arith, c.requires)), c.requires)
+    omega (arith, c.put-2.auto.out, columns-size v c.args.out.now c.loop-a.out c.loop-a.a c.loop-a.invariant.1 (omega (arith, c.requires)), c.requires)
 
 pub shape_of-out : goal.shape_of-out
 shape_of-out c =
     let v : ℕ → ℕ = λ k. get_or c.args.values.now k 0 in
-    length-set c.put-2.new.0 _ _ ∙ c.put-2.auto.0 ∙ columns-size v c.args.out.now c.loop-a.out c.loop-a.a c.loop-a.invariant.1 (omega (arith, c.requires))
+    length-set c.put-2.new.out _ _ ∙ c.put-2.auto.out ∙ columns-size v c.args.out.now c.loop-a.out c.loop-a.a c.loop-a.invariant.1 (omega (arith, c.requires))
 
 pub returns : goal.returns
 returns c =
