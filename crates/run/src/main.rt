@@ -18,9 +18,8 @@ ghost use Rattle.run.specs.Followed.{Followed};
 
 use answer::Answer;
 use lines::{Printed, Run};
-use std::fs;
-use std::io;
 use std::io::{Read as Input, Write};
+use std::{fs, io};
 use system::System;
 
 // The longest block of run lines, and of printed ones with the line of a refusal.

@@ -27,17 +27,17 @@ read_more r input n x {a} b e f =
     ap (λ (k : ℕ). eqb k 0 && b) (e ∙ ap number_of f ∙ ap (λ (k : ℕ). number_of (lines_answer r (take k input)).answer) z)
 
 pub listed-r-requires : goal.listed-r-requires
-listed-r-requires c =
+listed-r-requires g c =
     let q = c.requires in
     let a = c.args in
-    (q.0, q.1, q.2, part-few c.read_full-got.new.buf (c.read_full-got.result - 0) (length a.input.now) (block_lines * run_line_size a.run.plan.sensors) c.read_full-got.auto.buf q.3, q.4, q.5, q.6, q.7)
+    (q.0, q.1, q.2, part-few c.read_full-got.new.buffer (c.read_full-got.result - 0) (length a.input.now) (block_lines * run_line_size a.run.plan.sensors) c.read_full-got.auto.buffer q.3, q.4, q.5, q.6, q.7)
 
 pub returns : goal.returns
-returns c = (
-  c.read_full-got.auto.buf,
-  c.read_full-got.ensures.0,
-  read-laid c.args.run c.read_full-got.new.buf _ c.read_full-got.result _ _ c.listed-r.ensures.1,
-  read_more c.args.run c.read_full-got.new.buf c.read_full-got.result c.listed-r.result.answer _ c.number.ensures c.listed-r.ensures.0,
+returns g c = (
+  c.read_full-got.auto.buffer,
+  c.read_full-got.ensures,
+  read-laid c.args.run c.read_full-got.new.buffer _ c.read_full-got.result _ _ c.listed-r.ensures.1,
+  read_more c.args.run c.read_full-got.new.buffer c.read_full-got.result c.listed-r.result.answer _ c.number.ensures c.listed-r.ensures.0,
   c.listed-r.ensures.2,
   c.listed-r.auto.faults,
   c.listed-r.ensures.3,

@@ -27,26 +27,27 @@ use Rattle.lines.specs.Blocks.{block_listing, LaidBlock}
 use Rattle.lines.proofs.StepLaws.{front_length}
 use Rattle.lines.proofs.RunLaws.{lines-further, lines-in-time}
 use Rattle.run.specs.Followed.{nothing, further, Reached}
+use borrow.Author.Tests.{not-true, not-false}
 use Rattle.run.proofs.follow.Goals as goal
 
 pub line_size-size-requires : goal.line_size-size-requires
-line_size-size-requires c = (shape-of-accepted _ c.requires.0).sensors-le
+line_size-size-requires g c = (shape-of-accepted _ c.requires.0).sensors-le
 
 pub overflow_mul-size : goal.overflow_mul-size
-overflow_mul-size c = omega (arith, c.line_size-size.ensures, (shape-of-accepted c.args.start.plan c.requires.0).sensors-le)
+overflow_mul-size g c = omega (arith, c.line_size-size.ensures, (shape-of-accepted c.args.start.plan c.requires.0).sensors-le)
 
 pub size-bytes-requires : goal.size-bytes-requires
-size-bytes-requires c =
+size-bytes-requires g c =
     let h = shape-of-accepted c.args.start.plan c.requires.0 in
     subst Small (sym c.sizes_with.ensures) (record { nodes = h.nodes-high; cells = h.cells-le; actuators = h.actuators-le })
 
 pub loop-input-init : goal.loop-input-init
-loop-input-init c =
+loop-input-init g c =
     let z : ℕ = 0 in
     (c.requires.0, c.requires.1, c.requires.2, refl, length-replicate 42112 z, length-replicate 23181 z, length-replicate most_nodes z, length-replicate 14896 z, held-zero (sizes_of c.args.start.plan) 14896 0 (c.size-bytes.result - 0), record { read = []; printed = []; passed = nothing })
 
-pub UNKNOWN-slice-bounds-input-end : goal.UNKNOWN-slice-bounds-input-end
-UNKNOWN-slice-bounds-input-end c = omega (arith, c.line_size-size.ensures, (shape-of-accepted c.args.start.plan c.requires.0).sensors-le, c.loop-input.invariant.4)
+pub slice_bounds-input-end : goal.slice_bounds-input-end
+slice_bounds-input-end g c = omega (arith, c.line_size-size.ensures, (shape-of-accepted c.args.start.plan c.requires.0).sensors-le, c.loop-input.invariant.4)
 
 -- the fault bytes of the run's plan lie in the buffer
 bytes_fit : (p : Plan) {s : Sizes} {n len : ℕ} → accepted p ≡ true → {r : ℕ} → s ≡ sizes_with p r → n ≡ faults_size s → len ≡ 14896 → (n ≡ faults_size (sizes_of p)) × (n ≤ len)
@@ -54,14 +55,14 @@ bytes_fit p {s} {n} {len} a {r} e f l =
     let same : n ≡ faults_size (sizes_of p) = f ∙ ap faults_size e in
     (same, omega (arith, most-enough (sizes_of p) (small-of-shape p (shape-of-accepted p a))))
 
-pub UNKNOWN-slice-bounds-faults-end : goal.UNKNOWN-slice-bounds-faults-end
-UNKNOWN-slice-bounds-faults-end c = (bytes_fit c.args.start.plan c.requires.0 c.sizes_with.ensures c.size-bytes.ensures c.loop-input.invariant.7).1
+pub slice_bounds-faults-end : goal.slice_bounds-faults-end
+slice_bounds-faults-end g c = (bytes_fit c.args.start.plan c.requires.0 c.sizes_with.ensures c.size-bytes.ensures c.loop-input.invariant.7).1
 
-pub UNKNOWN-slice-bounds-out-end : goal.UNKNOWN-slice-bounds-out-end
-UNKNOWN-slice-bounds-out-end c = omega (arith, c.loop-input.invariant.5)
+pub slice_bounds-out-end : goal.slice_bounds-out-end
+slice_bounds-out-end g c = omega (arith, c.loop-input.invariant.5)
 
 pub block-read-requires : goal.block-read-requires
-block-read-requires c =
+block-read-requires g c =
     let l = c.loop-input in
     let a = c.args in
     let size = c.line_size-size in
@@ -110,7 +111,7 @@ module _ (r : Run) (input out : List ℕ) (got count : ℕ) (left : Run) (h : La
       rw h.run_is (lines-further r (take got input) (left-done m t) some)
 
 pub returns-then-not-read : goal.returns-then-not-read
-returns-then-not-read c =
+returns-then-not-read g c =
     let b = c.block-read in
     let l = c.loop-input in
     let a = c.args in
@@ -120,20 +121,20 @@ returns-then-not-read c =
     record {
       before = l.run;
       reached = l.invariant.9;
-      last = take b.result.got b.new.1.1.0;
-      ends = λ e. omega (arith, left-short l.run b.new.1.1.0 _ b.result.got _ _ b.ensures.2 b.ensures.3 (c.if-not-read.true) b.ensures.1 e, b.ensures.0, n, size.ensures);
+      last = take b.result.got b.new.input;
+      ends = λ e. omega (arith, left-short l.run b.new.input _ b.result.got _ _ b.ensures.2 b.ensures.3 (not-true _ c.if-not-read.true) b.ensures.1 e, b.ensures.0, n, size.ensures);
       left_is = b.ensures.2.run_is;
     }
 
 pub loop-input-smaller : goal.loop-input-smaller
-loop-input-smaller c =
+loop-input-smaller g c =
     let b = c.block-read in
     let l = c.loop-input in
     let a = c.args in
     let h = shape-of-accepted a.start.plan c.requires.0 in
     let n : length (take (128 * c.line_size-size.result - 0) l.input) ≡ 128 * c.line_size-size.result = front_length l.input refl (omega (arith, c.line_size-size.ensures, h.sensors-le, l.invariant.4)) in
-    let t : b.result.run.frame ≤ most_run_lines = left-in-time l.run b.new.1.1.0 _ b.result.got _ _ b.ensures.2 l.invariant.2 in
-    let f : l.run.frame < b.result.run.frame = left-further l.run b.new.1.1.0 _ b.result.got _ _ b.ensures.2 b.ensures.3 (c.if-not-read.false) (omega (arith, b.ensures.0, n, c.line_size-size.ensures)) in
+    let t : b.result.run.frame ≤ most_run_lines = left-in-time l.run b.new.input _ b.result.got _ _ b.ensures.2 l.invariant.2 in
+    let f : l.run.frame < b.result.run.frame = left-further l.run b.new.input _ b.result.got _ _ b.ensures.2 b.ensures.3 (not-false _ c.if-not-read.false) (omega (arith, b.ensures.0, n, c.line_size-size.ensures)) in
     omega (arith, t, f)
 
 -- a front that comes back as it was lent
@@ -141,23 +142,23 @@ front-back : (l part rest : List ℕ) (k n : ℕ) → length part ≡ length (ta
 front-back l part rest k n e z f = take_at part rest k (e ∙ length-take-le k l (omega arith))
 
 pub loop-input-preserved : goal.loop-input-preserved
-loop-input-preserved c =
+loop-input-preserved g c =
     let l = c.loop-input in
     let b = c.block-read in
     let k = c.size-bytes.result in
     let fit = bytes_fit c.args.start.plan c.requires.0 c.sizes_with.ensures c.size-bytes.ensures l.invariant.7 in
-    let part : List ℕ = b.new.1.1.1.1.0 in
+    let part : List ℕ = b.new.faults in
     let rest : List ℕ = drop (k - 0) l.faults in
     let back : take (k - 0) (part ++ rest) ≡ part = front-back l.faults part rest (k - 0) k b.ensures.5 (omega arith) fit.1 in
-    let plan : b.result.run.plan ≡ l.run.plan = left-plan l.run b.new.1.1.0 _ b.result.got _ _ b.ensures.2 in (
+    let plan : b.result.run.plan ≡ l.run.plan = left-plan l.run b.new.input _ b.result.got _ _ b.ensures.2 in (
       ap accepted plan ∙ l.invariant.0,
-      left-period l.run b.new.1.1.0 _ b.result.got _ _ b.ensures.2 ∙ l.invariant.1 ∙ ap period (sym plan),
-      left-in-time l.run b.new.1.1.0 _ b.result.got _ _ b.ensures.2 l.invariant.2,
+      left-period l.run b.new.input _ b.result.got _ _ b.ensures.2 ∙ l.invariant.1 ∙ ap period (sym plan),
+      left-in-time l.run b.new.input _ b.result.got _ _ b.ensures.2 l.invariant.2,
       plan ∙ l.invariant.3,
-      length_front l.input b.new.1.1.0 (128 * c.line_size-size.result - 0) b.ensures.0 ∙ l.invariant.4,
-      length_front l.out b.new.1.1.1.1.1.0 23181 b.ensures.7 ∙ l.invariant.5,
+      length_front l.input b.new.input (128 * c.line_size-size.result - 0) b.ensures.0 ∙ l.invariant.4,
+      length_front l.out b.new.out 23181 b.ensures.7 ∙ l.invariant.5,
       b.ensures.4,
-      length_front l.faults b.new.1.1.1.1.0 (k - 0) b.ensures.5 ∙ l.invariant.7,
+      length_front l.faults b.new.faults (k - 0) b.ensures.5 ∙ l.invariant.7,
       rw (back, plan) b.ensures.6,
-      left-reached l.run b.new.1.1.0 _ b.result.got _ _ b.ensures.2 (left-done l.run b.new.1.1.0 _ b.result.got _ _ b.ensures.2 b.ensures.3 (c.if-not-read.false)) l.invariant.9,
+      left-reached l.run b.new.input _ b.result.got _ _ b.ensures.2 (left-done l.run b.new.input _ b.result.got _ _ b.ensures.2 b.ensures.3 (not-false _ c.if-not-read.false)) l.invariant.9,
     )

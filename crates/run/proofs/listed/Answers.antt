@@ -14,8 +14,8 @@ pub overflow_add-end : goal.overflow_add-end
 overflow_add-end c =
     omega (arith, laid-most c.args.run _ c.args.out.now _ c.lines-r.result c.requires.3 c.requires.7 c.lines-r.ensures.0 c.lines-r.ensures.3, (shape-of-accepted c.args.run.plan c.requires.0).actuators-le)
 
-pub UNKNOWN-slice-bounds-write-refusal-end : goal.UNKNOWN-slice-bounds-write-refusal-end
-UNKNOWN-slice-bounds-write-refusal-end c =
+pub slice_bounds-write_refusal-end : goal.slice_bounds-write_refusal-end
+slice_bounds-write_refusal-end c =
     laid-room c.args.run _ c.args.out.now _ c.lines-r.result c.requires.3 c.requires.7 c.lines-r.ensures.0 c.lines-r.ensures.3
 
 pub returns : goal.returns
