@@ -23,8 +23,8 @@ size-size-requires c =
 pub frame_numbers-read-requires : goal.frame_numbers-read-requires
 frame_numbers-read-requires c = let h = shape-of-accepted c.args.plan c.requires.0 in (h.nodes-high, h.sensors-le)
 
-pub UNKNOWN-slice-bounds-faults-end : goal.UNKNOWN-slice-bounds-faults-end
-UNKNOWN-slice-bounds-faults-end c =
+pub slice_bounds-faults-end : goal.slice_bounds-faults-end
+slice_bounds-faults-end c =
     let p = c.args.plan in
     let q = c.requires in
     let s = c.sizes_with-s.result in

@@ -25,8 +25,8 @@ hold-requires c =
     let q = c.requires in
     ((sizes-small a.plan q.0 a.s q.1).0, (read-within a.plan a.s q.1 a.frame a.patterns.now c.in-Whole.is q.2).small, q.3, q.4, q.5)
 
-pub UNKNOWN-slice-bounds-finish-line-end : goal.UNKNOWN-slice-bounds-finish-line-end
-UNKNOWN-slice-bounds-finish-line-end c =
+pub slice_bounds-finish_line-end : goal.slice_bounds-finish_line-end
+slice_bounds-finish_line-end c =
     let a = c.args in
     let q = c.requires in
     read_fits a.plan a.s q.1 a.frame a.patterns.now c.in-Whole.is q.2

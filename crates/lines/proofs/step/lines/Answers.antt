@@ -5,7 +5,6 @@ use Prim.Native.Nat.{ℕ, ◌+◌, ◌-◌}
 use native.Mathlib.Omega.{arith}
 use native.Mathlib.Nat.{zero-mul}
 use borrow.Author.Rules.{rules}
-use borrow.Author.Tests.{not-true, not-false}
 use borrow.Rule.Slice.PartMut.{same_len_mid}
 use Rattle.plan.specs.declared.Sizes.{Sizes}
 use Rattle.plan.proofs.AcceptedLaws.{shape-of-accepted}
@@ -50,8 +49,8 @@ frame_numbers-read-requires c = let h = shape-of-accepted c.args.run.plan c.requ
 pub overflow_add-to : goal.overflow_add-to
 overflow_add-to c = omega (arith, (line-room c.loop-at.invariant c.printed_size-width.ensures c.requires.3 c.requires.7 (omega (arith, c.loop-at-test.true))).1, (shape-of-accepted c.args.run.plan c.requires.0).actuators-le)
 
-pub UNKNOWN-slice-bounds-line-on-rows-end : goal.UNKNOWN-slice-bounds-line-on-rows-end
-UNKNOWN-slice-bounds-line-on-rows-end c = (line-room c.loop-at.invariant c.printed_size-width.ensures c.requires.3 c.requires.7 (omega (arith, c.loop-at-test.true))).0
+pub slice_bounds-line_on_rows-end-in-loop-at-2 : goal.slice_bounds-line_on_rows-end-in-loop-at-2
+slice_bounds-line_on_rows-end-in-loop-at-2 c = (line-room c.loop-at.invariant c.printed_size-width.ensures c.requires.3 c.requires.7 (omega (arith, c.loop-at-test.true))).0
 
 pub line_on_rows-requires : goal.line_on_rows-requires
 unfolding line_numbers
@@ -81,7 +80,7 @@ returns-then-not-line_on_rows c =
     let r = c.args.run in
     let held : List ℕ = c.line_on_rows.new.held in
     let faults : List ℕ = c.line_on_rows.new.faults in
-    let y = line_refused c.loop-at.invariant c.line_size-size.ensures c.printed_size-width.ensures c.part_end-end.ensures (omega (arith, c.loop-at-test.true)) c.frame_numbers-read.ensures c.line_on_rows.ensures.2 r.system r.single (rows_seen c.seen_words-seen.ensures c.unpack.ensures.0) (c.unpack.ensures.1 ∙ c.put_memory.ensures.here) (not-true c.line_on_rows.result c.if-not-line_on_rows.true) r.period c.stopped.result c.stopped.ensures in
+    let y = line_refused c.loop-at.invariant c.line_size-size.ensures c.printed_size-width.ensures c.part_end-end.ensures (omega (arith, c.loop-at-test.true)) c.frame_numbers-read.ensures c.line_on_rows.ensures.2 r.system r.single (rows_seen c.seen_words-seen.ensures c.unpack.ensures.0) (c.unpack.ensures.1 ∙ c.put_memory.ensures.here) c.if-not-line_on_rows.true r.period c.stopped.result c.stopped.ensures in
     (y.0, c.line_on_rows.ensures.0, subst (λ (t : Sizes). Held t held faults) (sizes-are r.plan c.sizes_with-s.ensures c.requires.1) c.line_on_rows.ensures.1, y.1)
 
 pub overflow_add-at : goal.overflow_add-at
@@ -98,8 +97,8 @@ unfolding line_numbers
 loop-at-preserved c =
     let r = c.args.run in
     let kept = c.line_on_rows.auto in
-    line-run c.loop-at.invariant c.line_size-size.ensures c.printed_size-width.ensures c.part_end-end.ensures (omega (arith, c.loop-at-test.true)) c.frame_numbers-read.ensures c.line_on_rows.ensures.2 r.system r.single (rows_seen c.seen_words-seen.ensures c.unpack.ensures.0) (c.unpack.ensures.1 ∙ c.put_memory.ensures.here) (not-false c.line_on_rows.result c.if-not-line_on_rows.false)
-    kept.1.1.1.1.1.1.1.1.1.1.1.1.0 kept.1.1.1.1.1.1.1.1.0 kept.1.1.1.1.1.1.1.1.1.0 c.line_on_rows.ensures.0 kept.1.1.1.1.1.1.1.0 c.line_on_rows.ensures.1
+    line-run c.loop-at.invariant c.line_size-size.ensures c.printed_size-width.ensures c.part_end-end.ensures (omega (arith, c.loop-at-test.true)) c.frame_numbers-read.ensures c.line_on_rows.ensures.2 r.system r.single (rows_seen c.seen_words-seen.ensures c.unpack.ensures.0) (c.unpack.ensures.1 ∙ c.put_memory.ensures.here) c.if-not-line_on_rows.false
+    kept.out kept.counters kept.cells c.line_on_rows.ensures.0 kept.faults c.line_on_rows.ensures.1
 
 pub shape_of-faults : goal.shape_of-faults
 shape_of-faults c = c.loop-at.invariant.faults-long ∙ ap faults_size (sizes-are c.args.run.plan c.sizes_with-s.ensures c.requires.1) ∙ sym c.requires.5
@@ -122,9 +121,6 @@ slice_bounds-line_on_rows-end c = sym c.loop-at.invariant.counters-long
 
 pub slice_bounds-line_on_rows-end-in-loop-at : goal.slice_bounds-line_on_rows-end-in-loop-at
 slice_bounds-line_on_rows-end-in-loop-at c = sym c.loop-at.invariant.cells-long
-
-pub UNKNOWN-overflow-add-t60 : goal.UNKNOWN-overflow-add-t60
-UNKNOWN-overflow-add-t60 c = omega (arith, c.loop-at.invariant.few)
 
 pub slice_bounds-stopped-end : goal.slice_bounds-stopped-end
 slice_bounds-stopped-end c = sym (c.line_on_rows.auto.counters ∙ c.loop-at.invariant.counters-long)
