@@ -3,7 +3,8 @@
 
 ghost use Rattle.std.specs.Prelude.{◌≡◌, ◌+◌, ◌-◌, ◌*◌, ◌/◌, ◌^◌, ◌≤◌};
 
-use libc::STDOUT_FILENO;
+use std::io;
+use std::io::Write;
 
 const LAST: u64 = 512;
 
@@ -18,18 +19,24 @@ fn entry(i: u64) -> u64
     (1536 * square - 2 * (square * i) + 1024) / 2048
 }
 
-fn print_line(v: u64) {
-    let mut shown = [0u8; WIDTH];
-    column_write::write(&mut shown, v);
-    io::write_all(STDOUT_FILENO, b"    ");
-    io::write_all(STDOUT_FILENO, column::digits(&shown, 0, WIDTH));
-    io::write_all(STDOUT_FILENO, b",\n");
+// A write that fails is passed over.
+fn print_bytes<R: Print>(rt: &R, bytes: &[u8]) {
+    let mut out = io::writer(rt);
+    let _ = out.write_all(bytes);
 }
 
-fn main() {
+fn print_line<R: Print>(rt: &R, v: u64) {
+    let mut shown = [0u8; WIDTH];
+    column_write::write(&mut shown, v);
+    print_bytes(rt, b"    ");
+    print_bytes(rt, column::digits(&shown, 0, WIDTH));
+    print_bytes(rt, b",\n");
+}
+
+fn main(rt: HostRuntime) {
     let mut i: u64 = 0;
     while i <= LAST {
-        print_line(entry(i));
+        print_line(&rt, entry(i));
         i += 1;
     }
 }

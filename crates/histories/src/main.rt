@@ -9,7 +9,8 @@ ghost use Rattle.histories.specs.HistoriesListing.{history_frames, history_width
 ghost use Rattle.histories.specs.Code.{most_histories, history_line_size};
 
 use answer::Answer;
-use libc::STDOUT_FILENO;
+use std::io;
+use std::io::Write;
 
 // The frames of a history that is printed, the column of a mask, a line with its line feed.
 const FRAMES: usize = 3;
@@ -72,19 +73,26 @@ fn print(text: &[u8], masks: &mut [u8], out: &mut [u8]) -> usize
     count * LINE
 }
 
-fn show(text: &[u8], masks: &mut [u8], out: &mut [u8])
+// A write that fails is passed over.
+fn print_bytes<R: Print>(rt: &R, bytes: &[u8]) {
+    let mut out = io::writer(rt);
+    let _ = out.write_all(bytes);
+}
+
+fn show<R: Print>(rt: &R, text: &[u8], masks: &mut [u8], out: &mut [u8])
     requires { (most_histories * history_frames ≤ length masks.old) × (most_histories * history_line_size ≤ length out.old) }
 {
     let size = print(text, masks, out);
-    io::write_all(STDOUT_FILENO, &out[0..size]);
+    print_bytes(rt, &out[0..size]);
 }
 
-fn main() {
+fn main(rt: HostRuntime) {
     let mut text = [0u8; plan_file::TEXT];
     let mut masks = [0u8; MOST * FRAMES];
     let mut out = [0u8; MOST * LINE];
-    let n = plan_file::read(&mut text);
+    let n = plan_file::read(&rt, &mut text);
     show(
+        &rt,
         &text[0..n],
         &mut masks[0..MOST * FRAMES],
         &mut out[0..MOST * LINE],

@@ -2,7 +2,6 @@
 // Standard input has a row: how often (width 8). It prints a sum of what the calls gave.
 #![tactic(auto)]
 
-use libc::{STDIN_FILENO, STDOUT_FILENO};
 use numeral::Number;
 
 fn number(s: &[u8], from: usize, to: usize) -> u64 {
@@ -29,22 +28,23 @@ fn read_often(text: &mut [u8], times: u64) -> u64 {
 }
 
 // The text is read and its record tested once before: so `read` and the search for R have two callers each and stay functions, as in the library.
-fn repeat(text: &mut [u8], times: u64) {
+fn repeat<R: Print>(rt: &R, text: &mut [u8], times: u64) {
     let first = plan_text::read(text);
     let plan = first.plan;
     let answer = plan_period::check(plan);
-    io::print_decimal(STDOUT_FILENO, answer.number() as u64);
-    io::print_decimal(STDOUT_FILENO, read_often(text, times));
+    let _ = rt.print(answer.number() as u64);
+    let _ = rt.print(read_often(text, times));
 }
 
-fn main() {
+fn main(rt: HostRuntime) {
     let mut row = [0u8; 9];
-    let got = io::read_full(STDIN_FILENO, &mut row);
+    let mut input = rt.reader();
+    let got = plan_file::read_full(&mut input, &mut row);
     if got < 9 {
         return;
     }
     let times = number(&row, 0, 8);
     let mut text = [0u8; plan_file::TEXT];
-    let n = plan_file::read(&mut text);
-    repeat(&mut text[0..n], times);
+    let n = plan_file::read(&rt, &mut text);
+    repeat(&rt, &mut text[0..n], times);
 }

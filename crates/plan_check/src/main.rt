@@ -5,7 +5,8 @@ ghost use Rattle.std.specs.Prelude.{◌≡◌, ◌≤◌, length, take};
 ghost use Rattle.run_line.specs.Line.{refusal_size};
 ghost use Rattle.plan_check.specs.CheckListing.{check_listing};
 
-use libc::STDOUT_FILENO;
+use std::io;
+use std::io::Write;
 
 // The column of R; its line feed follows.
 const PERIOD: usize = 4;
@@ -27,16 +28,22 @@ fn print(text: &[u8], out: &mut [u8]) -> usize
     PERIOD + 1
 }
 
-fn show(text: &[u8], out: &mut [u8])
+// A write that fails is passed over.
+fn print_bytes<R: Print>(rt: &R, bytes: &[u8]) {
+    let mut out = io::writer(rt);
+    let _ = out.write_all(bytes);
+}
+
+fn show<R: Print>(rt: &R, text: &[u8], out: &mut [u8])
     requires { refusal_size ≤ length out.old }
 {
     let size = print(text, out);
-    io::write_all(STDOUT_FILENO, &out[0..size]);
+    print_bytes(rt, &out[0..size]);
 }
 
-fn main() {
+fn main(rt: HostRuntime) {
     let mut text = [0u8; plan_file::TEXT];
     let mut out = [0u8; run_line::step::REFUSAL];
-    let n = plan_file::read(&mut text);
-    show(&text[0..n], &mut out[0..run_line::step::REFUSAL]);
+    let n = plan_file::read(&rt, &mut text);
+    show(&rt, &text[0..n], &mut out[0..run_line::step::REFUSAL]);
 }

@@ -3,18 +3,36 @@
 
 ghost use Rattle.std.specs.Prelude.{◌≤◌, length};
 
+use std::fs;
+use std::io::Read;
+use std::rt::Files;
+
 // More than the longest plan text, so that a longer file is seen to be too long.
 pub const TEXT: usize = plan_line::Line::TEXT + 1;
 
+// Reads until the buffer is full, the input ends or a read fails, and gives how many bytes stand in the buffer's front then.
+pub fn read_full<R: Read>(input: &mut R, buffer: &mut [u8]) -> usize
+    ensures { result ≤ length buffer.new }
+{
+    let mut done: usize = 0;
+    while done < buffer.len() {
+        let Ok(n) = input.read(&mut buffer[done..]) else {
+            return done;
+        };
+        if n == 0 {
+            return done;
+        }
+        done += n;
+    }
+    done
+}
+
 // Fills the front of the buffer and gives how many bytes it has. A file that cannot be opened counts as empty.
-pub fn read(text: &mut [u8]) -> usize
+pub fn read<R: Files>(rt: &R, text: &mut [u8]) -> usize
     ensures { result ≤ length text.new }
 {
-    let file = os::open_read(b"plan.txt");
-    if file < 0 {
+    let Ok(mut file) = fs::open(rt, "plan.txt") else {
         return 0;
-    }
-    let n = io::read_full(file, text);
-    libc::close(file);
-    n
+    };
+    read_full(&mut file, text)
 }

@@ -3,10 +3,11 @@
 // shows 1 beside the number 0. tests/plan_texts/cases.rs makes the file, and what is to be printed, from document 01.
 #![tactic(auto)]
 
-use libc::STDOUT_FILENO;
 use numeral::Number;
 use plan::Plan;
 use plan_line::Line;
+use std::io::Write;
+use std::{fs, io};
 
 // Whether the plan, written, gives the text again.
 fn written_back(plan: Plan, text: &[u8]) -> bool {
@@ -21,31 +22,37 @@ fn written_back(plan: Plan, text: &[u8]) -> bool {
     (answer.number() == 0) & check::same(&s[0..count], text)
 }
 
-fn print(number: usize, line: usize) {
-    let mut first = [0u8; 4];
-    column_write::write(&mut first, number as u64);
-    io::write_all(STDOUT_FILENO, &first);
-    let mut second = [0u8; 8];
-    column_write::write(&mut second, line as u64);
-    io::write_all(STDOUT_FILENO, &second);
-    io::write_all(STDOUT_FILENO, b"\n");
+// A write that fails is passed over.
+fn print_bytes<R: Print>(rt: &R, bytes: &[u8]) {
+    let mut out = io::writer(rt);
+    let _ = out.write_all(bytes);
 }
 
-fn show(text: &[u8]) {
+fn print<R: Print>(rt: &R, number: usize, line: usize) {
+    let mut first = [0u8; 4];
+    column_write::write(&mut first, number as u64);
+    print_bytes(rt, &first);
+    let mut second = [0u8; 8];
+    column_write::write(&mut second, line as u64);
+    print_bytes(rt, &second);
+    print_bytes(rt, b"\n");
+}
+
+fn show<R: Print>(rt: &R, text: &[u8]) {
     let read = plan_text::read(text);
     let answer = read.answer;
     let number = answer.number();
     if number == 0 {
         let plan = read.plan;
         if !written_back(plan, text) {
-            print(0, 1);
+            print(rt, 0, 1);
             return;
         }
     }
-    print(number, answer.line());
+    print(rt, number, answer.line());
 }
 
-fn show_all(texts: &[u8]) {
+fn show_all<R: Print>(rt: &R, texts: &[u8]) {
     let n = texts.len();
     let mut at: usize = 0;
     while at < n {
@@ -60,21 +67,19 @@ fn show_all(texts: &[u8]) {
         if n - from < len {
             return;
         }
-        show(&texts[from..from + len]);
+        show(rt, &texts[from..from + len]);
         at = from + len;
     }
 }
 
-fn main() {
+fn main(rt: HostRuntime) {
     let mut buffer = [0u8; 262144];
-    let file = os::open_read(b"texts");
-    if file < 0 {
+    let Ok(mut file) = fs::open(&rt, "texts") else {
         return;
-    }
-    let n = io::read_full(file, &mut buffer);
-    libc::close(file);
+    };
+    let n = plan_file::read_full(&mut file, &mut buffer);
     let s = &buffer[..];
     if n <= s.len() {
-        show_all(&s[0..n]);
+        show_all(&rt, &s[0..n]);
     }
 }

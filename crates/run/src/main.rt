@@ -17,8 +17,10 @@ ghost use Rattle.lines.specs.Blocks.{LaidBlock};
 ghost use Rattle.run.specs.Followed.{Followed};
 
 use answer::Answer;
-use libc::STDOUT_FILENO;
 use lines::{Printed, Run};
+use std::fs;
+use std::io;
+use std::io::{Read as Input, Write};
 use system::System;
 
 // The longest block of run lines, and of printed ones with the line of a refusal.
@@ -26,10 +28,16 @@ const INPUT: usize = lines::step::BLOCK * 329;
 
 const OUTPUT: usize = lines::step::BLOCK * 181 + run_line::step::REFUSAL;
 
-fn print_refusal(answer: Answer) {
+// A write that fails is passed over.
+fn print_bytes<R: Print>(rt: &R, bytes: &[u8]) {
+    let mut out = io::writer(rt);
+    let _ = out.write_all(bytes);
+}
+
+fn print_refusal<R: Print>(rt: &R, answer: Answer) {
     let mut line = [0u8; run_line::step::REFUSAL];
     listing_start::refusal(answer, &mut line);
-    io::write_all(STDOUT_FILENO, &line);
+    print_bytes(rt, &line);
 }
 
 // What the lines of a block print, with the line of a refusal, and the run after them.
@@ -73,8 +81,9 @@ struct Read {
 }
 
 // The next lines of the file, as many as the input has room for.
-fn block(
-    file: i32,
+fn block<R: Print, F: Input>(
+    rt: &R,
+    file: &mut F,
     run: Run,
     input: &mut [u8],
     held: &mut [u8; System::NODES],
@@ -84,10 +93,10 @@ fn block(
     requires { (accepted run.plan ≡ true) × (run.period ≡ period_of run.plan) × (run.frame ≤ most_run_lines) × (length input.old ≤ block_lines * run_line_size run.plan.sensors) × (length held.old ≡ most_nodes) × (length faults.old ≡ faults_size (sizes_of run.plan)) × Held (sizes_of run.plan) held.old faults.old × (block_lines * printed_size run.plan.actuators + refusal_size ≤ length out.old) }
     ensures { (length input.new ≡ length input.old) × (result.got ≤ length input.new) × LaidBlock run (take result.got input.new) out.new result.printed result.run × (result.more ≡ (eqb (number_of (lines_answer run (take result.got input.new)).answer) 0 && eqb result.got (length input.new))) × (length held.new ≡ most_nodes) × (length faults.new ≡ length faults.old) × Held (sizes_of run.plan) held.new faults.new × (length out.new ≡ length out.old) }
 {
-    let got = io::read_full(file, input);
+    let got = plan_file::read_full(file, input);
     let r = listed(run, &input[0..got], held, faults, out);
     let printed = r.count;
-    io::write_all(STDOUT_FILENO, &out[0..printed]);
+    print_bytes(rt, &out[0..printed]);
     let answer = r.answer;
     let next = r.run;
     let whole = got == input.len();
@@ -100,7 +109,7 @@ fn block(
 }
 
 // The lines of the file, block by block, each from the run that the one before left. Gives the run after the last.
-fn follow(file: i32, start: Run) -> Run
+fn follow<R: Print, F: Input>(rt: &R, file: &mut F, start: Run) -> Run
     requires { (accepted start.plan ≡ true) × (start.period ≡ period_of start.plan) × (start.frame ≤ most_run_lines) }
     ensures { Followed start result }
 {
@@ -113,6 +122,7 @@ fn follow(file: i32, start: Run) -> Run
     let mut faults = [0u8; faults::step::MOST];
     loop {
         let read = block(
+            rt,
             file,
             run,
             &mut input[0..size],
@@ -127,19 +137,17 @@ fn follow(file: i32, start: Run) -> Run
     }
 }
 
-fn main() {
+fn main(rt: HostRuntime) {
     let mut text = [0u8; plan_file::TEXT];
-    let n = plan_file::read(&mut text);
+    let n = plan_file::read(&rt, &mut text);
     let start = listing_start::start(&text[0..n]);
     let answer = start.answer;
     if answer.number() != 0 {
-        print_refusal(answer);
+        print_refusal(&rt, answer);
         return;
     }
-    let file = os::open_read(b"run.txt");
-    if file < 0 {
+    let Ok(mut file) = fs::open(&rt, "run.txt") else {
         return;
-    }
-    follow(file, start.run);
-    libc::close(file);
+    };
+    follow(&rt, &mut file, start.run);
 }

@@ -1,8 +1,7 @@
 -- `frame::frame` meets its contract: an answer for each way out.
-use mathlib.Core.Path.{◌∙◌}
+use mathlib.Core.Path.{sym, ◌∙◌}
 use Rattle.plan_period.proofs.AnswerLaws.{accepted-period, accepted-of-period, refused-of-period}
 use Rattle.plan.proofs.AcceptedLaws.{shape-of-accepted}
-use Rattle.array.proofs.TestLaws.{refused-test, passed-test}
 use Rattle.counts.proofs.CountLaws.{mask-are}
 use Rattle.frame.proofs.CallLaws.{frame-plan, frame-mask, frame-length, frame-done, lengths-told}
 use Rattle.frame.proofs.frame.Goals as goal
@@ -22,7 +21,7 @@ returns-then-not-mask_ok-counts_ok c =
     let a = c.args in
     let ok = accepted-of-period _ r.ensures c.if-period-eq0.false in
     let tests = mask-are a.plan a.system a.mask (r.ensures ∙ accepted-period _ ok) c.mask_ok.ensures c.counts_ok.ensures in
-    frame-mask _ _ _ _ _ _ ok (refused-test tests c.if-not-mask_ok-counts_ok.true)
+    frame-mask _ _ _ _ _ _ ok (sym tests ∙ c.if-not-mask_ok-counts_ok.true)
 
 pub lengths_ok-requires : goal.lengths_ok-requires
 lengths_ok-requires c =
@@ -36,13 +35,13 @@ returns-then-not-lengths_ok c =
     let a = c.args in
     let ok = accepted-of-period _ r.ensures c.if-period-eq0.false in
     let tests = mask-are a.plan a.system a.mask (r.ensures ∙ accepted-period _ ok) c.mask_ok.ensures c.counts_ok.ensures in
-    frame-length _ _ _ _ _ _ ok (passed-test tests c.if-not-mask_ok-counts_ok.false) (refused-test c.lengths_ok.ensures c.if-not-lengths_ok.true)
+    frame-length _ _ _ _ _ _ ok (sym tests ∙ c.if-not-mask_ok-counts_ok.false) (sym c.lengths_ok.ensures ∙ c.if-not-lengths_ok.true)
 
 pub on_rows-stepped-requires : goal.on_rows-stepped-requires
 on_rows-stepped-requires c =
     let r = c.accepted_period-period in
     let ok = accepted-of-period _ r.ensures c.if-period-eq0.false in
-    let told = lengths-told c.args.plan _ _ _ (passed-test c.lengths_ok.ensures c.if-not-lengths_ok.false) in
+    let told = lengths-told c.args.plan _ _ _ (sym c.lengths_ok.ensures ∙ c.if-not-lengths_ok.false) in
     (ok, r.ensures ∙ accepted-period _ ok, told.0, told.1, told.2)
 
 pub returns : goal.returns
@@ -51,4 +50,4 @@ returns c =
     let a = c.args in
     let ok = accepted-of-period _ r.ensures c.if-period-eq0.false in
     let tests = mask-are a.plan a.system a.mask (r.ensures ∙ accepted-period _ ok) c.mask_ok.ensures c.counts_ok.ensures in
-    frame-done _ _ _ _ _ _ ok (passed-test tests c.if-not-mask_ok-counts_ok.false) (passed-test c.lengths_ok.ensures c.if-not-lengths_ok.false) c.on_rows-stepped.ensures
+    frame-done _ _ _ _ _ _ ok (sym tests ∙ c.if-not-mask_ok-counts_ok.false) (sym c.lengths_ok.ensures ∙ c.if-not-lengths_ok.false) c.on_rows-stepped.ensures

@@ -20,8 +20,8 @@ frame-agreement-requires c =
     let e = sizes-are a.plan q.1 c.sizes_with-s.ensures in
     (q.0, e, omega arith, q.2, parts-exact a.plan a.mask _ e q.3, search rules, search rules, c.table-cams.ensures)
 
-pub UNKNOWN-slice-bounds-copy-end : goal.UNKNOWN-slice-bounds-copy-end
-UNKNOWN-slice-bounds-copy-end c =
+pub slice_bounds-copy-end : goal.slice_bounds-copy-end
+slice_bounds-copy-end c =
     let f = c.frame-agreement.ensures.0 c.args.system (rows_seen c.seen_words-seen.ensures c.unpack.ensures.0) in
     omega (arith, seen-long f.0, (shape-of-accepted c.args.plan c.requires.0).actuators-le)
 

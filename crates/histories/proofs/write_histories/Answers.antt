@@ -23,11 +23,11 @@ overflow_add-line c = omega (arith, c.requires.0, c.loop-k-test.true)
 pub slice_bounds-write_history-count : goal.slice_bounds-write_history-count
 slice_bounds-write_history-count c = omega arith
 
-pub UNKNOWN-slice-bounds-write-history-start : goal.UNKNOWN-slice-bounds-write-history-start
-UNKNOWN-slice-bounds-write-history-start c = omega arith
+pub slice_bounds-write_history-start : goal.slice_bounds-write_history-start
+slice_bounds-write_history-start c = omega arith
 
-pub UNKNOWN-slice-bounds-write-history-end : goal.UNKNOWN-slice-bounds-write-history-end
-UNKNOWN-slice-bounds-write-history-end c = omega (arith, c.requires.2, c.loop-k-test.true, c.loop-k.invariant.2)
+pub slice_bounds-write_history-end : goal.slice_bounds-write_history-end
+slice_bounds-write_history-end c = omega (arith, c.requires.2, c.loop-k-test.true, c.loop-k.invariant.2)
 
 pub bounds-masks-at : goal.bounds-masks-at
 bounds-masks-at c = omega (arith, c.requires.1, c.loop-k-test.true)

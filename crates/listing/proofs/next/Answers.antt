@@ -1,9 +1,8 @@
 -- `listing::next` meets its contract: an answer for each way out.
-use mathlib.Core.Path.{◌∙◌}
+use mathlib.Core.Path.{sym, ◌∙◌}
 use native.Mathlib.Omega.{arith}
 use Rattle.plan_period.proofs.AnswerLaws.{accepted-period, accepted-of-period, refused-of-period}
 use Rattle.plan.proofs.AcceptedLaws.{shape-of-accepted}
-use Rattle.array.proofs.TestLaws.{refused-test, passed-test}
 use Rattle.counts.proofs.CountLaws.{counts-are}
 use Rattle.lines.proofs.StepLaws.{front_length}
 use Rattle.listing.proofs.CallLaws.{next-plan, next-counts, next-room, next-ended, next-taken}
@@ -26,7 +25,7 @@ returns-then-not-counts_ok c =
     let n = c.accepted_period-period in
     let ok = accepted-of-period p n.ensures c.if-period-eq0.false in
     let tests = counts-are p a.run.system 0 (n.ensures ∙ accepted-period p ok) c.counts_ok.ensures in
-    next-counts a.run a.rest.now a.out.now c.nothing-then-not-counts_ok.result ok (refused-test tests c.if-not-counts_ok.true) c.nothing-then-not-counts_ok.ensures
+    next-counts a.run a.rest.now a.out.now c.nothing-then-not-counts_ok.result ok (sym tests ∙ c.if-not-counts_ok.true) c.nothing-then-not-counts_ok.ensures
 
 pub printed_size-size-requires : goal.printed_size-size-requires
 printed_size-size-requires c = (shape-of-accepted _ (accepted-of-period _ c.accepted_period-period.ensures c.if-period-eq0.false)).actuators-le
@@ -38,7 +37,7 @@ returns-then-out-size c =
     let n = c.accepted_period-period in
     let ok = accepted-of-period p n.ensures c.if-period-eq0.false in
     let tests = counts-are p a.run.system 0 (n.ensures ∙ accepted-period p ok) c.counts_ok.ensures in
-    let counts = passed-test tests c.if-not-counts_ok.false in
+    let counts = sym tests ∙ c.if-not-counts_ok.false in
     let size = c.printed_size-size in
     next-room a.run a.rest.now a.out.now c.nothing-then-out-size.result ok counts (omega (arith, size.ensures, c.if-out-size.true)) c.nothing-then-out-size.ensures
 
@@ -49,7 +48,7 @@ returns-then-rest-eq0 c =
     let n = c.accepted_period-period in
     let ok = accepted-of-period p n.ensures c.if-period-eq0.false in
     let tests = counts-are p a.run.system 0 (n.ensures ∙ accepted-period p ok) c.counts_ok.ensures in
-    let counts = passed-test tests c.if-not-counts_ok.false in
+    let counts = sym tests ∙ c.if-not-counts_ok.false in
     let size = c.printed_size-size in
     next-ended a.run a.rest.now a.out.now c.nothing-then-rest-eq0.result ok counts (omega (arith, size.ensures, c.if-out-size.false)) c.if-rest-eq0.true c.nothing-then-rest-eq0.ensures
 
@@ -69,6 +68,6 @@ returns c =
     let n = c.accepted_period-period in
     let ok = accepted-of-period p n.ensures c.if-period-eq0.false in
     let tests = counts-are p a.run.system 0 (n.ensures ∙ accepted-period p ok) c.counts_ok.ensures in
-    let counts = passed-test tests c.if-not-counts_ok.false in
+    let counts = sym tests ∙ c.if-not-counts_ok.false in
     let size = c.printed_size-size in
     next-taken a.run a.rest.now a.out.now c.next_line.result ok counts (omega (arith, size.ensures, c.if-out-size.false)) size.ensures c.if-rest-eq0.false c.next_line.ensures.0 c.next_line.ensures.1

@@ -3,6 +3,7 @@ use mathlib.Core.Path.{◌≡◌, ap, ◌∙◌}
 use Prim.Native.Nat.{ℕ, ◌+◌, ◌-◌, min}
 use native.Mathlib.Omega.{arith}
 use lib.ListN.{length, take}
+use borrow.Author.Tests.{not-true, not-false}
 use Rattle.plan.proofs.AcceptedLaws.{shape-of-accepted}
 use Rattle.run_line.specs.Line.{run_line_size}
 use Rattle.lines.proofs.StepLaws.{first-line}
@@ -22,7 +23,7 @@ returns-then-not-s c =
     let size = c.line_size-size in
     let q = c.requires in
     let same : take (c.part_end-end.result - 0) a.rest.now ≡ take (run_line_size r.plan.sensors) a.rest.now = first-line a.rest.now (run_line_size r.plan.sensors) (c.part_end-end.ensures ∙ ap (λ (n : ℕ). min (0 + n) (length a.rest.now)) size.ensures) in
-    line_refused r a.rest.now a.out.now _ _ c.line-s.result q.2 same c.line-s.ensures.0 c.line-s.ensures.1 c.nothing.result (c.if-not-s.true) (c.nothing.ensures.0 ∙ c.refused_line.ensures, c.nothing.ensures.1, c.nothing.ensures.2)
+    line_refused r a.rest.now a.out.now _ _ c.line-s.result q.2 same c.line-s.ensures.0 c.line-s.ensures.1 c.nothing.result (not-true _ c.if-not-s.true) (c.nothing.ensures.0 ∙ c.refused_line.ensures, c.nothing.ensures.1, c.nothing.ensures.2)
 
 pub overflow_add-next : goal.overflow_add-next
 overflow_add-next c =
@@ -31,7 +32,7 @@ overflow_add-next c =
     let size = c.line_size-size in
     let q = c.requires in
     let same : take (c.part_end-end.result - 0) a.rest.now ≡ take (run_line_size r.plan.sensors) a.rest.now = first-line a.rest.now (run_line_size r.plan.sensors) (c.part_end-end.ensures ∙ ap (λ (n : ℕ). min (0 + n) (length a.rest.now)) size.ensures) in
-    omega (arith, line-in-range r a.rest.now a.out.now _ _ c.line-s.result q.2 same c.line-s.ensures.0 c.line-s.ensures.1 (c.if-not-s.false))
+    omega (arith, line-in-range r a.rest.now a.out.now _ _ c.line-s.result q.2 same c.line-s.ensures.0 c.line-s.ensures.1 (not-false _ c.if-not-s.false))
 
 pub returns : goal.returns
 returns c =
@@ -40,4 +41,4 @@ returns c =
     let size = c.line_size-size in
     let q = c.requires in
     let same : take (c.part_end-end.result - 0) a.rest.now ≡ take (run_line_size r.plan.sensors) a.rest.now = first-line a.rest.now (run_line_size r.plan.sensors) (c.part_end-end.ensures ∙ ap (λ (n : ℕ). min (0 + n) (length a.rest.now)) size.ensures) in
-    line-done r a.rest.now a.out.now _ _ c.line-s.result q.2 same c.line-s.ensures.0 c.line-s.ensures.1 a.period (c.if-not-s.false) q.1
+    line-done r a.rest.now a.out.now _ _ c.line-s.result q.2 same c.line-s.ensures.0 c.line-s.ensures.1 a.period (not-false _ c.if-not-s.false) q.1

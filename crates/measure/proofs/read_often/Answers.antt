@@ -8,6 +8,7 @@ use Rattle.measure.proofs.read_often.Lts as lts
 use Rattle.answer.proofs.Answer.number.Reads as number-reads
 use Rattle.plan_text.proofs.read.Reads as read-reads
 use Rattle.measure.proofs.read_often.Goals as goal
+use Rattle.measure.proofs.read_often.Goals.{else-text-gt92, then-text-gt92}
 
 pub loop-k-init : goal.loop-k-init
 loop-k-init c = search rules
@@ -38,7 +39,7 @@ loop-k-smaller c = search rules
 
 pub loop-k-preserved : goal.loop-k-preserved
 loop-k-preserved c =
-    (search rules, search rules, ⊎_elim (λ w. ap length w.1 ∙ length-set c.loop-k.text _ _ ∙ c.loop-k.invariant.2) (λ w. ap length w.1 ∙ c.loop-k.invariant.2) c.if-text-gt92.branch)
+    (search rules, search rules, elim c.if-text-gt92.branch [ then-text-gt92 w ↦ ap length w.text-is ∙ length-set c.loop-k.text _ _ ∙ c.loop-k.invariant.2 | else-text-gt92 w ↦ ap length w.text-is ∙ c.loop-k.invariant.2 ])
 
 pub shape_of-text : goal.shape_of-text
 shape_of-text c = search rules
