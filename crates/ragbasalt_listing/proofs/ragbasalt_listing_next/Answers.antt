@@ -7,3 +7,9 @@ pub give_run-requires : goal.give_run-requires
 unfolding run_of
 give_run-requires c =
     nodes-few _ _ _ (rw c.run-before.ensures at c.next-printed.ensures.0)
+
+pub returns : goal.returns
+returns c = let plan = c.plan-p.ensures in
+    let run = rw plan at c.run-before.ensures in
+    let a = rw run at c.next-printed.ensures.0 in
+    (rw a at c.code.ensures, rw (a, plan) at c.give_run.ensures, rw run at c.next-printed.ensures.1, λ i. (a i).count)

@@ -1,5 +1,6 @@
 -- `ragbasalt_listing_start` meets its contract: a result for each way out.
 use Rattle.system_words.proofs.GivenLaws.{done-given, done-kept}
+use Rattle.ragbasalt_listing.proofs.RunLaws.{start-accepted}
 use Rattle.ragbasalt_listing.proofs.ragbasalt_listing_start.Goals as goal
 
 pub returns-then-number-ne0 : goal.returns-then-number-ne0
@@ -14,3 +15,6 @@ returns c =
       done-given _ _ _ (rw a at c.number.ensures) c.if-number-ne0.false (rw a at c.words-words.ensures),
       rw a at c.give_run.ensures,
     )
+
+pub words-words-requires : goal.words-words-requires
+words-words-requires c = start-accepted _ c.start-started.ensures c.number.ensures c.if-number-ne0.false
