@@ -85,10 +85,6 @@ fn crate_line(line: &str) -> Option<(&str, &str)> {
     if what.starts_with("proved (") {
         return Some((name, what));
     }
-    // A family of the library's calls is proved where it is built.
-    if let Some(family) = what.strip_prefix("has the functions of ") {
-        return Some((family.split_whitespace().next()?, "built"));
-    }
     (what.starts_with("NOT PROVED") || what.contains("FAILED")).then_some((name, "failed"))
 }
 
@@ -123,7 +119,10 @@ impl Programs {
     fn crates(&self, names: &[&str]) -> BTreeSet<String> {
         let list = self.list();
         let below = |name: &str| {
-            let line = list.lines().find_map(|line| line.strip_prefix(name)?.strip_prefix(':'));
+            let line = list.lines().find_map(|line| {
+                let rest = line.strip_prefix(name)?;
+                rest.strip_prefix(" staticlib").unwrap_or(rest).strip_prefix(':')
+            });
             let listed = line.and_then(|rest| rest.split('#').next());
             listed.map(|rest| rest.split_whitespace().map(String::from).collect::<Vec<_>>())
         };
@@ -194,8 +193,8 @@ impl Programs {
         }
         say("proving and building the program; from nothing this takes some minutes");
         let now = SystemTime::now();
-        self.prove(&[&["rt", "check"], names].concat(), names)?;
-        // rt leaves a program alone whose sources are the same though newer. A source that was saved
+        self.prove(&[&["bash", ".ci/prove"], names].concat(), names)?;
+        // A program is left alone whose sources are the same though newer. A source that was saved
         // meanwhile is newer still.
         for name in names {
             let touched = fs::File::open(self.path(name)).and_then(|file| file.set_modified(now));
@@ -210,7 +209,7 @@ impl Programs {
         if !self.is_fresh(&self.root.join(LIBRARY)) {
             say("proving and building the library; from nothing this takes some minutes");
             let list = self.list();
-            let names = list.lines().filter_map(|line| line.split(':').next());
+            let names = list.lines().filter_map(|line| line.split([':', ' ']).next());
             let families: Vec<&str> = names.filter(|name| name.starts_with(FAMILY)).collect();
             self.prove(&["bash", ".ci/library"], &families)?;
         }

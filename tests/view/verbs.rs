@@ -1,7 +1,7 @@
 //! `./ragbasalt` as a user calls it: what goes where, and the exit status.
 
 use std::fs;
-use std::os::unix::fs::{symlink, PermissionsExt};
+use std::os::unix::fs::symlink;
 use std::path::PathBuf;
 use std::process::{Command, Stdio};
 
@@ -362,7 +362,7 @@ fn streams(work: &Work) -> Result<(), String> {
     same("a link", (output.status, output.out), (0, work.example("k/listing.txt")?))
 }
 
-/// A repository of five crates with an rt of its own, which proves nothing and prints much: what is
+/// A repository of five crates with a .ci/prove of its own, which proves nothing and prints much: what is
 /// shown on first use.
 fn first_use(work: &Work) -> Result<(), String> {
     let view = work.tree.root.join("target/view/ragbasalt");
@@ -376,13 +376,9 @@ fn first_use(work: &Work) -> Result<(), String> {
     let rt = "#!/bin/sh\nfor name in plan lines run plan_check; do echo \"fn $name::f: proved\"; echo \"rt: $name proved (1 s)\"; done\n\
         echo noise >&2\nmkdir -p target/bin\nfor name in run plan_check; do\n\
         printf '#!/bin/sh\\necho \"   1       0\"\\n' >target/bin/$name; chmod +x target/bin/$name; done\n";
-    let rt_path = work.file("tree/bin/rt", rt)?;
-    fs::set_permissions(&rt_path, fs::Permissions::from_mode(0o755))
-        .map_err(|error| error.to_string())?;
+    work.file("tree/.ci/prove", rt)?;
     let root = work.folder.join("tree");
-    let path =
-        format!("{}:{}", root.join("bin").display(), std::env::var("PATH").unwrap_or_default());
-    let call = || outcome(Command::new(&view).arg(&root).env("PATH", &path));
+    let call = || outcome(Command::new(&view).arg(&root));
     let first = call();
     let wanted =
         "ragbasalt: proving and building the program; from nothing this takes some minutes\n\
@@ -411,7 +407,7 @@ fn first_use(work: &Work) -> Result<(), String> {
         file.set_modified(before).map_err(|error| error.to_string())?;
     }
     same("sources as before", call().errors.contains("proving"), false)?;
-    work.file("tree/bin/rt", "#!/bin/sh\necho 'rt: plan proved (1 s)'\necho 'rt: lines NOT PROVED (exit 1, 2 s)'\nexit 1\n")?;
+    work.file("tree/.ci/prove", "#!/bin/sh\necho 'rt: plan proved (1 s)'\necho 'rt: lines NOT PROVED (2 s)'\nexit 1\n")?;
     fs::remove_file(root.join("target/bin/run")).map_err(|error| error.to_string())?;
     let failed = call();
     let last = failed.errors.lines().last().unwrap_or_default();
@@ -422,36 +418,34 @@ fn first_use(work: &Work) -> Result<(), String> {
     )
 }
 
-/// The library of two families in a repository with an rt that proves nothing: the crates that they
+/// The library of two families in a repository with a .ci/prove that proves nothing: the crates that they
 /// share are shown once, and the archive has the objects of both.
 fn library(work: &Work) -> Result<(), String> {
     let view = work.tree.root.join("target/view/ragbasalt");
     let error = |error: std::io::Error| error.to_string();
     work.file(
         "library/crates.txt",
-        "plan:\nragbasalt_a: plan\nnode: plan\nragbasalt_b: plan node\n",
+        "plan:\nragbasalt_a staticlib: plan\nnode: plan\nragbasalt_b staticlib: plan node\n",
     )?;
     work.file("library/crates/plan/src/lib.rt", "")?;
     let script = fs::read(work.tree.root.join(".ci/library")).map_err(error)?;
     work.file("library/.ci/library", script)?;
-    let rt = "#!/bin/sh\n[ $1 = staticlib ] || exit 1\necho noise >&2\nmkdir -p target/staticlib\n\
-        if [ $2 = ragbasalt_a ]; then echo 'rt: plan proved (1 s)'\n\
+    let prove = "#!/bin/sh\n[ \"$*\" = 'ragbasalt_a ragbasalt_b' ] || exit 1\necho noise >&2\nmkdir -p target/staticlib\n\
+        for family in ragbasalt_a ragbasalt_b; do\n\
+        if [ $family = ragbasalt_a ]; then echo 'rt: plan proved (1 s)'\n\
         else echo 'rt: plan proved (unchanged since it was last proved)'; echo 'rt: node proved (2 s)'; fi\n\
-        echo $2 >$2.o; ar rc target/staticlib/lib$2.a $2.o\n\
-        echo \"rt: target/staticlib/lib$2.a has the functions of $2 that are marked so\"\n";
-    let rt = work.file("library/bin/rt", rt)?;
-    fs::set_permissions(&rt, fs::Permissions::from_mode(0o755)).map_err(error)?;
+        echo \"rt: $family proved (1 s)\"\n\
+        echo $family >$family.o; ar rc target/staticlib/lib$family.a $family.o; done\n";
+    work.file("library/.ci/prove", prove)?;
     let root = work.folder.join("library");
-    let path =
-        format!("{}:{}", root.join("bin").display(), std::env::var("PATH").unwrap_or_default());
-    let call = || outcome(Command::new(&view).arg(&root).arg("library").env("PATH", &path));
+    let call = || outcome(Command::new(&view).arg(&root).arg("library"));
     let first = call();
     let wanted =
         "ragbasalt: proving and building the library; from nothing this takes some minutes\n\
         ragbasalt:  1 of 4 plan proved (1 s), log target/prove.log\n\
-        ragbasalt:  2 of 4 ragbasalt_a built, log target/prove.log\n\
+        ragbasalt:  2 of 4 ragbasalt_a proved (1 s), log target/prove.log\n\
         ragbasalt:  3 of 4 node proved (2 s), log target/prove.log\n\
-        ragbasalt:  4 of 4 ragbasalt_b built, log target/prove.log\n";
+        ragbasalt:  4 of 4 ragbasalt_b proved (1 s), log target/prove.log\n";
     same("the library", (first.status, first.errors.as_str()), (0, wanted))?;
     let archive = root.join("target/staticlib/libragbasalt.a");
     let named = first.out.starts_with(&format!("{}\n", archive.display()));
@@ -460,7 +454,7 @@ fn library(work: &Work) -> Result<(), String> {
     same("the archive", members.out.as_str(), "ragbasalt_a.o\nragbasalt_b.o\n")?;
     same("the library again", (call().status, call().errors.as_str()), (0, ""))?;
     fs::remove_file(&archive).map_err(error)?;
-    work.file("library/bin/rt", "#!/bin/sh\necho 'no proof'\nexit 3\n")?;
+    work.file("library/.ci/prove", "#!/bin/sh\necho 'no proof'\nexit 3\n")?;
     let failed = call();
     let last = failed.errors.lines().last().unwrap_or_default();
     let words = "ragbasalt: bash .ci/library failed; target/prove.log has why";
