@@ -1,7 +1,8 @@
 // The file plan.txt, for the programs that read it.
 #![tactic(auto)]
 
-ghost use Rattle.std.specs.Prelude.{◌≤◌, length};
+ghost use Rattle.std.specs.Prelude.{◌≤◌, length, take};
+ghost use Rattle.std.specs.Io.KnownBytes.{Consumes};
 
 use std::fs;
 use std::io::Read;
@@ -12,7 +13,8 @@ pub const TEXT: usize = plan_line::Line::TEXT + 1;
 
 // Reads until the buffer is full, the input ends or a read fails, and gives how many bytes stand in the buffer's front then.
 pub fn read_full<R: Read>(input: &mut R, buffer: &mut [u8]) -> usize
-    ensures { result ≤ length buffer.new }
+    ensures count { result ≤ length buffer.new }
+    ensures bytes { Consumes (R.remaining input.old) (R.remaining input.new) (take result buffer.new) }
 {
     let mut done: usize = 0;
     while done < buffer.len() {

@@ -1,9 +1,10 @@
--- The count stays within the buffer, and each turn of the loop fills more of it.
-use Rattle.std.proofs.Common.{length, ◌-◌, ◌≤◌}
+-- The count stays within the buffer, the buffer's front is what the reader gave, and each turn of the loop fills more of it.
+use Rattle.std.proofs.Common.{length, take, ◌-◌, ◌≤◌}
+use Rattle.std.specs.Io.KnownBytes.{Consumes}
 use Rattle.plan_file.proofs.read_full.Given as goal
 
 abbrev pub invariant-loop-done : goal.invariant-loop-done
-invariant-loop-done g l = l.done ≤ length l.buffer
+invariant-loop-done g l = (l.done ≤ length l.buffer) × Consumes (g.R.Read.remaining l.initial.input) (g.R.Read.remaining l.input) (take l.done l.buffer)
 
 abbrev pub decreases-loop-done : goal.decreases-loop-done
 decreases-loop-done g l = length l.initial.buffer - l.done

@@ -35,7 +35,7 @@ listed-r-requires g c =
 pub returns : goal.returns
 returns g c = (
   c.read_full-got.auto.buffer,
-  c.read_full-got.ensures,
+  c.read_full-got.ensures.count,
   read-laid c.args.run c.read_full-got.new.buffer _ c.read_full-got.result _ _ c.listed-r.ensures.1,
   read_more c.args.run c.read_full-got.new.buffer c.read_full-got.result c.listed-r.result.answer _ c.number.ensures c.listed-r.ensures.0,
   c.listed-r.ensures.2,
