@@ -10,14 +10,13 @@ use native.Mathlib.Omega.{arith}
 use native.Mathlib.Nat.{mod-eq_of_lt}
 use lib.Dec.{eqb, ltb}
 use lib.ListN.{length, get_or, take}
-use borrow.Author.Tests.{ltb-true, ltb-false, eqb-true, eq-eqb, ne_eqb, not-true}
+use borrow.Author.Tests.{ltb-true, ltb-false, eq-eqb, ne_eqb, not-true}
 use Rattle.array.specs.Index.{all_below, all_in, fill}
 use Rattle.array.proofs.TestLaws.{split, and_left, and_right, and_both}
 use Rattle.array.proofs.IndexLaws.{all_below-at, all_below-not, all_in-take, how_many-bound, how_many-all, how_many-every}
 use Rattle.array.proofs.LeastLaws.{least-missing, least-of-some}
 use Rattle.array.proofs.PlacesLaws.{fill-length, fill-in, fill-same}
-use Rattle.array.proofs.BitLaws.{bit-none, mask-none}
-use Rattle.answer.specs.Tests.{passed}
+use Rattle.array.proofs.BitLaws.{mask-none}
 use Rattle.plan.specs.declared.Plan.{Plan}
 use Rattle.plan.specs.Known.{period}
 use Rattle.plan.specs.Tables.{voted_in}
@@ -41,14 +40,13 @@ use Rattle.system.specs.System.{zero_system, power_on}
 use Rattle.system.specs.Fault.{bad, fault_setpoint}
 use Rattle.system.specs.Frame.{memory_of, handed_of, computed_by, heard, mailbox_of, memory_after, put_out, handed_on, system_after, place_after, agreement_by, frame_agreement}
 use Rattle.system.specs.CountCalls.{same_memory}
-use Rattle.system.specs.FrameCall.{mask_ok}
-use Rattle.system.specs.Demand.{Call, call_tests, is_frame, next, finally, single_next, single_finally, masks, good_in, MostGood, Premise, OnePlan}
+use Rattle.system.specs.Demand.{Call, is_frame, next, finally, single_next, single_finally, masks, good_in, MostGood, Premise, OnePlan}
 use Rattle.at_most_two.specs.AtMostTwo.{all_good, Vouched, Bytes, NoRepair, Apart, StaysApart, OneStaysApart, remembered_or_first}
 use Rattle.system.proofs.FaultLaws.{fault_memory-length, fault_memory-bounded}
 use Rattle.system.proofs.CountLaws.{Counts, counts-after}
 use Rattle.system.proofs.FrameLaws.{heard-length, memory-after}
 use Rattle.system.proofs.StateLaws.{State, state-start}
-use Rattle.system.proofs.DemandLaws.{since, frame_is, single-frame, single-refused, next-frame, next-refused, one_left, one_right, zero-good, mask_below}
+use Rattle.system.proofs.DemandLaws.{since, single-frame, single-refused, next-frame, next-refused, one_left, one_right, zero-good, mask_below}
 
 -- ---- lists of masks
 

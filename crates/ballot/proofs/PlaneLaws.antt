@@ -15,7 +15,7 @@ use Rattle.array.proofs.IndexLaws.{all_below-at, all_below-all, how_many-apart}
 use Rattle.ballot.specs.Majority.{holds, holders, backing}
 use Rattle.ballot.specs.Plane.{most_held, none_more, plane}
 use Rattle.ballot.specs.Code.{best_from}
-use Rattle.ballot.proofs.MajorityLaws.{no-some, holds-true, holders-same, backing-same, holders-some}
+use Rattle.ballot.proofs.MajorityLaws.{no-some, holds-true, holders-same, holders-some}
 use Rattle.ballot.proofs.ScanLaws.{holders-held}
 
 -- the old rule's: v is put out by the most of n nodes, and `holder` is the lowest of all nodes whose value that many put out

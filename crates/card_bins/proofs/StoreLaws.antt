@@ -8,7 +8,7 @@ use native.Mathlib.Nat.{mul-le-mul, mul-le-mul_right}
 use native.Mathlib.Numerals.{add-one}
 use lib.Dec.{eqb}
 use lib.ListN.{length, get_or, set, take, drop, replicate, length-replicate, length-set, get_or-replicate}
-use Rattle.array.specs.Index.{all_below, fill, joined, from}
+use Rattle.array.specs.Index.{all_below, fill, from}
 use Rattle.array.specs.Code.{placed}
 use Rattle.array.proofs.TestLaws.{split}
 use Rattle.array.proofs.PlacesLaws.{fill_is, from-length, joined-none, joined-more, joined_length}

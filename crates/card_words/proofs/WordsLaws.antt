@@ -1,5 +1,5 @@
 -- Laws of a card as words and bytes: what the code reads and stores is what the definitions say; words and bytes that a card gives are read to this card.
-use mathlib.Core.Path.{◌≡◌, refl, sym, ap, ◌∙◌}
+use mathlib.Core.Path.{◌≡◌, sym, ◌∙◌}
 use mathlib.Core.List.{List, []}
 use Prim.Native.Nat.{ℕ, ◌%◌, ◌<◌}
 use lib.ListN.{length, get_or, set, replicate, length-replicate, get_or-replicate}

@@ -6,16 +6,15 @@ use Prim.Native.Nat.{ℕ, ◌+◌, ◌-◌, ◌*◌, ◌≤◌}
 use native.Mathlib.Omega.{arith}
 use native.Mathlib.Nat.{zero-add}
 use native.Mathlib.Numerals.{add-one}
-use lib.ListN.{length, get_or, set, take, drop, length-append, length-set}
+use lib.ListN.{length, get_or, set, drop, length-append, length-set}
 use lib.Seq.{set_split}
-use borrow.Rule.Slice.PartMut.{put_mid}
 use Rattle.array.specs.Index.{joined}
 use Rattle.array.proofs.PlacedLaws.{placed-none, placed-length, placed-next}
 use Rattle.array.proofs.PlacesLaws.{joined-none, joined-more}
 use Rattle.column.specs.Column.{column}
 use Rattle.column.specs.Row.{row}
 use Rattle.column.proofs.ColumnLaws.{column-length}
-use Rattle.column.proofs.BufferLaws.{Laid, laid-length, laid_none, lay}
+use Rattle.column.proofs.BufferLaws.{Laid, laid-length, laid_none}
 use Rattle.plan.specs.declared.Plan.{Plan}
 use Rattle.plan.specs.Limits.{most_frames, most_cells}
 use Rattle.plan.specs.Tables.{task_at, vote_frame, vote_cell}

@@ -1,12 +1,10 @@
 -- A page and what is written to it are of a card's words alone: whatever its bins are, the calls give the same.
-use mathlib.Core.Path.{◌≡◌, refl, sym}
-use mathlib.Core.Bool.{Bool, true, false}
+use mathlib.Core.Path.{◌≡◌, refl}
 use mathlib.Core.List.{List}
 use Prim.Native.Nat.{ℕ}
 use Rattle.answer.specs.Tests.{passed, if_passed}
 use Rattle.array.proofs.TestLaws.{split}
 use Rattle.plan.specs.declared.Plan.{Plan}
-use Rattle.system_words.specs.Words.{if_done}
 use Rattle.card_step.specs.Calls.{writing, card_tests, card_done, card_after, byte_read}
 use Rattle.card.specs.Card.{parts_of, card_of, card_outcome, page_read}
 use Rattle.card_words.specs.Words.{card_of_words, with_card, card_given}

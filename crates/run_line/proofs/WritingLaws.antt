@@ -5,7 +5,7 @@ use Prim.Native.Nat.{ℕ, zero, suc, ◌+◌, ◌-◌, ◌*◌, ◌≤◌}
 use native.Mathlib.Omega.{arith}
 use native.Mathlib.Nat.{zero-add}
 use native.Mathlib.Numerals.{add-one}
-use lib.ListN.{length, get_or, set, drop, replicate, length-append, length-set, drop_of_length-le}
+use lib.ListN.{length, get_or, set, replicate, length-append, length-set, drop_of_length-le}
 use lib.Seq.{set_split}
 use Rattle.array.specs.Index.{joined, from}
 use Rattle.array.proofs.PlacesLaws.{joined_same, joined-more, from-length, from_at}

@@ -1,6 +1,6 @@
 -- Request 2026-06: what the plane remembers after a frame, and over a list of calls.
 use mathlib.Core.Path.{◌≡◌, refl, sym, ap, ◌∙◌}
-use mathlib.Core.Bool.{Bool, true, ◌&&◌}
+use mathlib.Core.Bool.{true, ◌&&◌}
 use mathlib.Core.List.{List, [], ◌∷◌}
 use Prim.Native.Nat.{ℕ, ◌+◌, ◌≤◌, ◌<◌}
 use native.Mathlib.Omega.{arith}
@@ -24,7 +24,6 @@ use Rattle.system.specs.Frame.{handed_of, put_out, handed_on, system_after, plac
 use Rattle.system.specs.FrameCall.{mask_ok, counts_ok, lengths_ok, frame_tests, frame_answer, frame_place}
 use Rattle.system.specs.Demand.{Call, next, finally}
 use Rattle.system.specs.Seen.{Remembered, runs, NeverMore, Writes, Kept, NoJump}
-use Rattle.system.proofs.StateLaws.{State}
 use Rattle.system.proofs.DemandLaws.{state-finally}
 
 -- ---- one frame

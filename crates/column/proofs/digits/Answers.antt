@@ -1,5 +1,5 @@
 -- `column::digits` meets its contract: the blanks of the column are those of its rest, up to where the rest starts with another byte or is empty.
-use Rattle.std.proofs.Common.{ℕ, ◌+◌, ◌-◌, sym, ap, ◌∙◌, inl, inr, ⊎_elim, arith, rules}
+use Rattle.std.proofs.Common.{ℕ, ◌+◌, ◌-◌, sym, ap, ◌∙◌, inl, inr, arith, rules}
 use lib.Seq.{slice, slice_empty}
 use Rattle.word.specs.Word.{word_of, low_run}
 use Rattle.column.specs.Column.{drop_blanks}

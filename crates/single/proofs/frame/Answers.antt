@@ -1,5 +1,4 @@
 -- `single::frame` meets its contract: an answer for each way out.
-use mathlib.Core.Bool.{◌&&◌}
 use lib.Dec.{eqb}
 use lib.ListN.{length}
 use borrow.Author.Tests.{eqb-true}

@@ -1,7 +1,6 @@
 -- `cam::step::position` meets its contract: one way out for each case of the position.
 use Rattle.std.proofs.Common.{sym, ◌∙◌}
 use lib.Ieee.{of_bits}
-use borrow.Author.Tests.{not-true, not-false}
 use Rattle.cam.proofs.PositionLaws.{position_first, position-last, position-whole, whole-low, whole-high}
 use Rattle.cam.proofs.step.position.Goals as goal
 

@@ -1,6 +1,5 @@
 -- `counts::step::working` meets its contract: the loop has counted among the first i nodes.
 use mathlib.Core.Path.{sym, ◌∙◌}
-use mathlib.Core.Logic.{⊎_elim}
 use Prim.Native.Nat.{◌-◌}
 use native.Mathlib.Omega.{arith}
 use borrow.Author.Rules.{rules}

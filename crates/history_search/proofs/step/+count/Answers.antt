@@ -1,6 +1,5 @@
 -- The histories that go on from a past are counted: the proof of the cycle of calls {count}. What is left of the frames falls with each call.
 use mathlib.Core.Path.{◌∙◌}
-use mathlib.Core.Logic.{⊎_elim}
 use Prim.Native.Nat.{◌+◌, ◌-◌}
 use native.Mathlib.Omega.{arith}
 use Rattle.history_masks.specs.Code.{past_of}

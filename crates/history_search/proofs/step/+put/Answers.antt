@@ -1,6 +1,5 @@
 -- The histories that go on from a past are written: the proof of the cycle of calls {put}. What is left of the frames falls with each call.
 use mathlib.Core.Path.{sym, ap, ◌∙◌}
-use mathlib.Core.Logic.{⊎_elim}
 use mathlib.Core.List.{List}
 use Prim.Native.Nat.{ℕ, ◌+◌, ◌-◌}
 use native.Mathlib.Omega.{arith}

@@ -1,6 +1,5 @@
 -- `memory::step::compute` meets its contract: the loop has run the tasks of the frame among the first k.
 use mathlib.Core.Path.{ap, ◌∙◌}
-use mathlib.Core.Logic.{⊎_elim}
 use Prim.Native.Nat.{◌-◌}
 use native.Mathlib.Omega.{arith}
 use native.Mathlib.Nat.{mod-lt}

@@ -1,7 +1,6 @@
 -- `row_counter::step::counters_each` meets its contract: of the first i nodes the good ones have counted.
 use mathlib.Core.Path.{◌≡◌, sym, ap, ◌∙◌}
 use mathlib.Core.Bool.{not}
-use mathlib.Core.Logic.{⊎_elim}
 use mathlib.Core.Option.{Option}
 use Prim.Native.Nat.{ℕ, suc, ◌-◌}
 use native.Mathlib.Numerals.{add-one}

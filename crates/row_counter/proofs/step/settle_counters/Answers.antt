@@ -1,6 +1,5 @@
 -- `row_counter::step::settle_counters` meets its contract: the first j nodes have the counter.
 use mathlib.Core.Path.{refl}
-use mathlib.Core.Logic.{⊎_elim}
 use Prim.Native.Nat.{suc, ◌-◌}
 use native.Mathlib.Omega.{arith}
 use native.Mathlib.Numerals.{add-one}

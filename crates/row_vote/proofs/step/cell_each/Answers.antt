@@ -1,6 +1,5 @@
 -- `row_vote::step::cell_each` meets its contract: of the first i nodes those that vote on the cell have counted.
 use mathlib.Core.Path.{◌≡◌, ap, ◌∙◌}
-use mathlib.Core.Logic.{⊎_elim}
 use mathlib.Core.Bool.{Bool}
 use mathlib.Core.Option
 use mathlib.Core.Option.{Option}

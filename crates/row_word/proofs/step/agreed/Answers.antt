@@ -1,6 +1,5 @@
 -- `row_word::step::agreed` meets its contract: of the first i nodes the good ones have counted, and none can bring the least below the good holders.
 use mathlib.Core.Path.{◌≡◌, ◌∙◌, ap}
-use mathlib.Core.Logic.{⊎_elim}
 use mathlib.Core.Option.{Option}
 use Prim.Native.Nat.{ℕ, ◌-◌}
 use native.Mathlib.Omega.{arith}

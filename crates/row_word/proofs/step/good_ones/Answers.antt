@@ -1,6 +1,5 @@
 -- `row_word::step::good_ones` meets its contract: the first k are the words of the good ones among the first j nodes.
 use mathlib.Core.Path.{◌≡◌, ap, ◌∙◌}
-use mathlib.Core.Logic.{⊎_elim}
 use mathlib.Core.Option.{Option}
 use Prim.Native.Nat.{ℕ, ◌-◌}
 use native.Mathlib.Omega.{arith}
