@@ -59,6 +59,8 @@ fn newest(folder: &Path) -> Option<SystemTime> {
         let path = entry.path();
         let source = path.extension().is_some_and(|end| end == "rt" || end == "antt");
         match entry.file_type() {
+            // out/ has what rt made.
+            Ok(kind) if kind.is_dir() && path.ends_with("out") => {}
             Ok(kind) if kind.is_dir() => times.extend(newest(&path)),
             Ok(_) if source => times.extend(entry.metadata().and_then(|data| data.modified())),
             _ => {}

@@ -11,7 +11,7 @@ pub const LAST: usize = 512;
 
 pub const SIZE: usize = LAST + 1;
 
-// The program `cam_table` prints these lines.
+// The program `cam_table` prints these numbers, one a line.
 const CAM: [u32; SIZE] = [
     0, 1, 3, 7, 12, 19, 27, 36, 48, 60, 74, 89, 106, 125, 144, 165, 188, 212, 237, 264, 292, 322,
     353, 385, 419, 453, 490, 528, 567, 607, 649, 692, 736, 782, 829, 877, 926, 977, 1029, 1083,

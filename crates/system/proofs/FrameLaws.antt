@@ -1,6 +1,6 @@
 -- One frame that is not refused, beside the single controller: what holds of each node by its good count, and that the plane hands on
 -- the single's setpoints.
-use mathlib.Core.Path.{◌≡◌, refl, sym, ◌∙◌}
+use mathlib.Core.Path.{◌≡◌, refl, sym, subst, ◌∙◌}
 use mathlib.Core.Bool.{Bool, true, false}
 use mathlib.Core.List.{List}
 use mathlib.Core.Option.{some}
@@ -236,7 +236,8 @@ module _
         (λ t.
         let e : k ≡ period p = eqb-true k (period p) t in
         let n : min (period p) (k + 1) ≡ period p = omega arith in
-        rw (node.whole e, vote-whole i, n) (node-whole p s'))
+        let w : voted p (run i) (box i) ≡ s' = rw (node.whole e) (vote-whole i) in
+        rw n (subst (λ (m : Memory). Node p s' m (period p)) (sym w) (node-whole p s')))
         (λ t.
         let l : k < period p = omega (arith, node.most, eqb-false k (period p) t) in
         let n : min (period p) (k + 1) ≡ suc k = omega arith in

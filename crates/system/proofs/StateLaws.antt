@@ -165,7 +165,7 @@ module _
     pub most-work : p.nodes < 2 * how_many (is_working (period p) mask sys.good) p.nodes
     unfolding MostGood
     most-work =
-        omega (arith, good, how_many-le (λ j. good_in j (mask ∷ take (period p) past)) (is_working (period p) mask sys.good) p.nodes works)
+        omega (arith, (shape-of-accepted p accept).nodes-low, good, how_many-le (λ j. good_in j (mask ∷ take (period p) past)) (is_working (period p) mask sys.good) p.nodes works)
 
     working : MostWork p sys s mask
     unfolding is_working
