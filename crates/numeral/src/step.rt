@@ -66,5 +66,5 @@ pub fn eight(d: &[u8], i: usize) -> Number
     }
     let pairs = (x * 10 + (x >> 8)) & 0x00FF00FF00FF00FF;
     let fours = (pairs * 100 + (pairs >> 16)) & 0x0000FFFF0000FFFF;
-    Number::Value((fours * 10000 + (fours >> 32)) & 0x_ffffffff)
+    Number::Value((fours * 10000 + (fours >> 32)) & 0xFFFFFFFF)
 }

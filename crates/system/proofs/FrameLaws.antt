@@ -226,22 +226,30 @@ module _
 
     -- ---- every node
 
+    -- a good node that has not recovered yet takes in the vote
+    good-part :
+        (i : ℕ) → bad mask i ≡ false →
+        Node p s (old i) (good_of sys i) →
+        good_of sys i < period p →
+        Node p s' (memory_after p sys sensors mask faults i) (good_after (period p) mask sys.good i)
+    unfolding memory_after computed_by good_after count_after
+    good-part i good node l =
+        let n : min (period p) (good_of sys i + 1) ≡ suc (good_of sys i) = omega arith in
+        rw (good, n) (part-node i (good_of sys i) node l)
+
     good-node :
         (i : ℕ) → bad mask i ≡ false →
         Node p s (old i) (good_of sys i) →
         Node p s' (memory_after p sys sensors mask faults i) (good_after (period p) mask sys.good i)
     unfolding memory_after computed_by good_after count_after
     good-node i good node =
-        rw good (split (eqb k (period p))
+        split (eqb k (period p))
         (λ t.
         let e : k ≡ period p = eqb-true k (period p) t in
         let n : min (period p) (k + 1) ≡ period p = omega arith in
         let w : voted p (run i) (box i) ≡ s' = rw (node.whole e) (vote-whole i) in
-        rw n (subst (λ (m : Memory). Node p s' m (period p)) (sym w) (node-whole p s')))
-        (λ t.
-        let l : k < period p = omega (arith, node.most, eqb-false k (period p) t) in
-        let n : min (period p) (k + 1) ≡ suc k = omega arith in
-        rw n (part-node i k node l)))
+        rw (good, n) (subst (λ (m : Memory). Node p s' m (period p)) (sym w) (node-whole p s')))
+        (λ t. good-part i good node (omega (arith, node.most, eqb-false k (period p) t)))
       where
         k : ℕ
         k = good_of sys i
