@@ -1,9 +1,8 @@
 -- Document 01, 'Who can cause which refusal': "A refusal gives its number and a line from 1; 0 where no line is meant." Document 02, 2026-05: "Numbers that a request adds count
 -- in demand 1 as 1 to 10 do, with line 0."
 use Rattle.std.specs.Prelude.{ℕ}
-use Rattle.answer.specs.declared.Answer.{Answer}
-use Rattle.answer.specs.declared.Answer.TheVariants.{
-  Done,
+use Rattle.answer.specs.declared.Refusal.{Refusal}
+use Rattle.answer.specs.declared.Refusal.TheVariants.{
   TextLength,
   Malformed,
   Header,
@@ -18,9 +17,8 @@ use Rattle.answer.specs.declared.Answer.TheVariants.{
   PageAccess,
 }
 
--- the refusal's number; 0 for a call that is not refused
-abbrev pub number_of : Answer → ℕ
-number_of Done = 0
+-- the refusal's number
+abbrev pub number_of : Refusal → ℕ
 number_of TextLength = 1
 number_of (Malformed line) = 2
 number_of Header = 3
@@ -35,8 +33,7 @@ number_of NodesOrLength = 11
 number_of PageAccess = 12
 
 -- its line; refusal 3 is of the first line only
-abbrev pub line_of : Answer → ℕ
-line_of Done = 0
+abbrev pub line_of : Refusal → ℕ
 line_of TextLength = 0
 line_of (Malformed line) = line
 line_of Header = 1

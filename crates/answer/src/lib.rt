@@ -1,12 +1,12 @@
-// What a public call answers. Document 01 gives each refusal a number and a line: `number_of` and `line_of` say which.
+// Why a public call is refused. Document 01 gives each refusal a number and a line: `number_of` and `line_of` say which.
 #![tactic(auto)]
 
 ghost use Rattle.std.specs.Prelude.{◌≡◌};
 ghost use Rattle.answer.specs.Refusal.{number_of, line_of};
+ghost use Rattle.answer.specs.Tests.{refusal_of};
 
 #[derive(Clone, Copy)]
-pub enum Answer {
-    Done,
+pub enum Refusal {
     // The plan's author: the text's length; a column or line end; the first line; order; range or constants; no recovery period.
     TextLength,
     Malformed(usize),
@@ -26,24 +26,44 @@ pub enum Answer {
     PageAccess,
 }
 
-impl Answer {
+impl Refusal {
+    // The refusal with a number and a line, if there is one.
+    pub fn with_number(number: usize, line: usize) -> Option<Refusal>
+        ensures { result ≡ refusal_of number line }
+    {
+        match number {
+            1 => Some(Refusal::TextLength),
+            2 => Some(Refusal::Malformed(line)),
+            3 => Some(Refusal::Header),
+            4 => Some(Refusal::OutOfOrder(line)),
+            5 => Some(Refusal::OutOfRange(line)),
+            6 => Some(Refusal::Unrecoverable),
+            7 => Some(Refusal::InvalidPlan),
+            8 => Some(Refusal::WrongLength),
+            9 => Some(Refusal::MaskOrCount),
+            10 => Some(Refusal::RunLine(line)),
+            11 => Some(Refusal::NodesOrLength),
+            12 => Some(Refusal::PageAccess),
+            _ => None,
+        }
+    }
+
     pub fn number(self) -> usize
         ensures { result ≡ number_of self }
     {
         match self {
-            Answer::Done => 0,
-            Answer::TextLength => 1,
-            Answer::Malformed(_) => 2,
-            Answer::Header => 3,
-            Answer::OutOfOrder(_) => 4,
-            Answer::OutOfRange(_) => 5,
-            Answer::Unrecoverable => 6,
-            Answer::InvalidPlan => 7,
-            Answer::WrongLength => 8,
-            Answer::MaskOrCount => 9,
-            Answer::RunLine(_) => 10,
-            Answer::NodesOrLength => 11,
-            Answer::PageAccess => 12,
+            Refusal::TextLength => 1,
+            Refusal::Malformed(_) => 2,
+            Refusal::Header => 3,
+            Refusal::OutOfOrder(_) => 4,
+            Refusal::OutOfRange(_) => 5,
+            Refusal::Unrecoverable => 6,
+            Refusal::InvalidPlan => 7,
+            Refusal::WrongLength => 8,
+            Refusal::MaskOrCount => 9,
+            Refusal::RunLine(_) => 10,
+            Refusal::NodesOrLength => 11,
+            Refusal::PageAccess => 12,
         }
     }
 
@@ -51,19 +71,12 @@ impl Answer {
         ensures { result ≡ line_of self }
     {
         match self {
-            Answer::Malformed(line) => line,
-            Answer::Header => 1,
-            Answer::OutOfOrder(line) => line,
-            Answer::OutOfRange(line) => line,
-            Answer::RunLine(line) => line,
-            Answer::Done => 0,
-            Answer::TextLength => 0,
-            Answer::Unrecoverable => 0,
-            Answer::InvalidPlan => 0,
-            Answer::WrongLength => 0,
-            Answer::MaskOrCount => 0,
-            Answer::NodesOrLength => 0,
-            Answer::PageAccess => 0,
+            Refusal::Malformed(line)
+            | Refusal::OutOfOrder(line)
+            | Refusal::OutOfRange(line)
+            | Refusal::RunLine(line) => line,
+            Refusal::Header => 1,
+            _ => 0,
         }
     }
 }

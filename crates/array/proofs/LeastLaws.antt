@@ -1,7 +1,7 @@
 -- Laws of `least` and `lesser`: a loop's start and one more, what is at most the least, and where one is taken.
+use Rattle.std.specs.Prelude.{Option, None, Some, unwrap_or}
 use mathlib.Core.Path.{◌≡◌, refl}
 use mathlib.Core.Bool.{Bool, true, false}
-use mathlib.Core.Option.{Option, none, some, get_or}
 use Prim.Native.Nat.{ℕ, zero, suc, ◌+◌, ◌≤◌, ◌<◌, min}
 use native.Mathlib.Omega.{arith}
 use native.Mathlib.Nat.{not-suc-le-zero}
@@ -11,10 +11,10 @@ use borrow.Author.Tests.{eqb-true, eqb-false, ltb-true, ltb-false}
 use Rattle.array.specs.Index.{lesser, least}
 use Rattle.array.proofs.TestLaws.{split, clash}
 
-lesser-more : (x y : ℕ) (o : Option ℕ) → lesser x (some (lesser y o)) ≡ min (lesser x o) y
+lesser-more : (x y : ℕ) (o : Option ℕ) → lesser x (Some (lesser y o)) ≡ min (lesser x o) y
 unfolding lesser
-lesser-more x y none = refl
-lesser-more x y (some z) = omega arith
+lesser-more x y None = refl
+lesser-more x y (Some z) = omega arith
 
 min-of : (P : ℕ → Type 0) (x y : ℕ) → P x → P y → P (min x y)
 min-of P x y a b =
@@ -24,8 +24,8 @@ min-of P x y a b =
 
 pub lesser-first : (x : ℕ) (o : Option ℕ) → lesser x o ≤ x
 unfolding lesser
-lesser-first x none = omega arith
-lesser-first x (some z) = omega arith
+lesser-first x None = omega arith
+lesser-first x (Some z) = omega arith
 
 module _ (take : ℕ → Bool) (f : ℕ → ℕ) where
   pub least-none : (x : ℕ) → x ≡ lesser x (least take f 0)
@@ -73,12 +73,12 @@ module _ (take : ℕ → Bool) (f : ℕ → ℕ) where
 
   -- ---- where none is taken, and where one is
 
-  pub least-missing : (n : ℕ) → ((k : ℕ) → k < n → take k ≡ false) → least take f n ≡ none
+  pub least-missing : (n : ℕ) → ((k : ℕ) → k < n → take k ≡ false) → least take f n ≡ None
   unfolding least
   least-missing zero g = refl
   least-missing (suc n) g = rw (g n (omega arith), least-missing n (λ k l. g k (omega arith)))
 
-  least-some : (n k : ℕ) → k < n → take k ≡ true → (y : ℕ) × (least take f n ≡ some y)
+  least-some : (n k : ℕ) → k < n → take k ≡ true → (y : ℕ) × (least take f n ≡ Some y)
   unfolding least
   least-some zero k l t = absurd (not-suc-le-zero l)
   least-some (suc n) k l t =
@@ -87,7 +87,7 @@ module _ (take : ℕ → Bool) (f : ℕ → ℕ) where
       (λ u. rw u (least-some n k (split (eqb k n) (λ q. absurd (clash (rw (eqb-true k n q) at t) u)) (λ q. omega (arith, eqb-false k n q))) t))
 
   -- a number that is not below one of them does not count
-  pub least-of-taken : (n k x : ℕ) → k < n → take k ≡ true → f k ≤ x → get_or (least take f n) 0 ≡ lesser x (least take f n)
+  pub least-of-taken : (n k x : ℕ) → k < n → take k ≡ true → f k ≤ x → unwrap_or (least take f n) 0 ≡ lesser x (least take f n)
   unfolding lesser
   least-of-taken n k x l t h =
       let s = least-some n k l t in
@@ -96,7 +96,7 @@ module _ (take : ℕ → Bool) (f : ℕ → ℕ) where
 
   -- what holds of all that are taken, one at least, holds of the least of them
   pub least-of-some :
-      (P : ℕ → Type 0) (n k : ℕ) → k < n → take k ≡ true → ((j : ℕ) → j < n → take j ≡ true → P (f j)) → P (get_or (least take f n) 0)
+      (P : ℕ → Type 0) (n k : ℕ) → k < n → take k ≡ true → ((j : ℕ) → j < n → take j ≡ true → P (f j)) → P (unwrap_or (least take f n) 0)
   least-of-some P n k l t g = rw (least-of-taken n k (f k) l t (omega arith)) (least-of P n (f k) (g k l t) g)
 
 -- the same numbers of the same ones

@@ -1,14 +1,18 @@
 -- Laws of big-endian words, over the width.
-use mathlib.Core.Path.{◌≡◌, refl, ap, ◌∙◌, subst}
+use mathlib.Core.Path.{◌≡◌, refl, sym, ap, ◌∙◌, subst}
 use mathlib.Core.List.{List, [], ◌∷◌, ◌++◌, append_assoc}
-use Prim.Native.Nat.{ℕ, zero, suc, ◌+◌, ◌*◌, ◌/◌, ◌%◌, ◌^◌, ◌≤◌, ◌<◌}
+use Prim.Native.Nat.{ℕ, zero, suc, ◌+◌, ◌-◌, ◌*◌, ◌/◌, ◌%◌, ◌^◌, ◌≤◌, ◌<◌}
 use native.Mathlib.Omega.{arith}
-use native.Mathlib.Nat.{add-zero, zero-add, div-add-mod', pow-suc, div-lt_iff_lt-mul}
+use native.Mathlib.Nat.{add-zero, zero-add, div-add-mod', pow-suc, div-lt_iff_lt-mul, add-sub_cancel_left}
 use native.Mathlib.Numerals.{add-one}
 use lib.Dec.{lit<}
 use lib.ListN.{length, get_or, set, take, drop, length-append}
-use lib.Seq.{sets, sets-eq}
+use Rattle.std.proofs.Common.{drop-drop, drop_of_length-le, add-suc}
+use Rattle.std.proofs.lemmas.List.{drop-append-le}
+use borrow.Rule.Slice.PartMut.{put_mid}
+use Rattle.std.specs.Int.{w16, w64, from_be_bytes, to_be_bytes}
 use Rattle.array.specs.Index.{from}
+use Rattle.array.specs.Code.{placed}
 use Rattle.array.specs.Word.{be, bytes}
 use Rattle.array.proofs.PlacesLaws.{Holds, holds-left, holds-right, holds-entry, from_at}
 
@@ -17,15 +21,43 @@ unfolding bytes
 bytes-length zero x = refl
 bytes-length (suc n) x = length-append (bytes n (x / 256)) (x % 256 ∷ []) ∙ rw (bytes-length n (x / 256)) (add-one n)
 
--- one byte, and one byte more
-module _ (s : List ℕ) (at : ℕ) where
-  pub be-first : {r : ℕ} → r ≡ get_or s at 0 → r ≡ be 1 s at
-  unfolding be
-  be-first e = e ∙ rw (add-zero, zero-add)
+-- the library's numbers of two and of eight bytes
 
-  pub be-next : (n : ℕ) {a r : ℕ} → r ≡ a * 256 + get_or s (at + n) 0 → a ≡ be n s at → r ≡ be (suc n) s at
-  unfolding be
-  be-next n e h = e ∙ ap (λ (x : ℕ). x * 256 + get_or s (at + n) 0) h
+pub be-two : (s : List ℕ) (at : ℕ) → from_be_bytes w16 (get_or s at 0 ∷ get_or s (at + 1) 0 ∷ []) ≡ be 2 s at
+unfolding be
+be-two s at = rw add-zero (omega arith)
+
+pub be-eight :
+    (s : List ℕ) (at : ℕ) →
+    from_be_bytes w64 (
+    get_or s at 0
+    ∷ get_or s (at + 1) 0
+    ∷ get_or s (at + 2) 0
+    ∷ get_or s (at + 3) 0
+    ∷ get_or s (at + 4) 0
+    ∷ get_or s (at + 5) 0
+    ∷ get_or s (at + 6) 0
+    ∷ get_or s (at + 7) 0
+    ∷ []
+    )
+    ≡ be 8 s at
+unfolding be
+be-eight s at = rw add-zero (omega arith)
+
+pub bytes-two : (x : ℕ) → to_be_bytes w16 x ≡ bytes 2 x
+unfolding bytes
+bytes-two x = refl
+
+pub bytes-eight : (x : ℕ) → to_be_bytes w64 x ≡ bytes 8 x
+unfolding bytes
+bytes-eight x =
+    let e₂ : x / 256 / 256 ≡ x / 65536 = omega arith in
+    let e₃ : x / 65536 / 256 ≡ x / 16777216 = omega arith in
+    let e₄ : x / 16777216 / 256 ≡ x / 4294967296 = omega arith in
+    let e₅ : x / 4294967296 / 256 ≡ x / 1099511627776 = omega arith in
+    let e₆ : x / 1099511627776 / 256 ≡ x / 281474976710656 = omega arith in
+    let e₇ : x / 281474976710656 / 256 ≡ x / 72057594037927936 = omega arith in
+    rw (e₂, e₃, e₄, e₅, e₆, e₇)
 
 -- a list of bytes is read to a number below 256 ^ n
 pub be-bound : (n : ℕ) (s : List ℕ) (at : ℕ) → ((i : ℕ) → get_or s i 0 < 256) → be n s at < 256 ^ n
@@ -53,25 +85,22 @@ be-part (suc n) s at w o l =
     let z : at + o + n ≡ at + (o + n) = omega arith in
     rw (be-part n s at w o (omega arith), z, from_at 0 s at w (o + n) (omega arith))
 
--- ---- stores one after another
+-- a part stored at its place
+pub part-stored : (s t u : List ℕ) (at k : ℕ) → t ≡ u → put_mid at (at + k - at) s t ≡ take at s ++ (u ++ drop (at + k) s)
+part-stored s t u at k e = rw (e, add-sub_cancel_left at k, drop-drop k at s)
 
-stored : (s : List ℕ) (at : ℕ) (vs : List ℕ) → at + length vs ≤ length s → sets s at vs ≡ take at s ++ (vs ++ drop (at + length vs) s)
-stored s at vs l = sets-eq vs s at l ∙ append_assoc (take at s) vs (drop (at + length vs) s)
+pub part-placed : (s t u : List ℕ) (at k : ℕ) → t ≡ u → length u ≡ k → put_mid at (at + k - at) s t ≡ placed s at u
+part-placed s t u at k e l = rw (part-stored s t u at k e, l)
 
-pub stored2 : (s : List ℕ) (at a b : ℕ) → at + 2 ≤ length s → set (set s at a) (at + 1) b ≡ take at s ++ ((a ∷ b ∷ []) ++ drop (at + 2) s)
-stored2 s at a b l = rw (add-one at) (stored s at (a ∷ b ∷ []) l)
+-- the last bytes of a number's are those of its low part
+pub last_bytes : (m n x : ℕ) → drop m (bytes (m + n) x) ≡ bytes n x
+unfolding bytes
+last_bytes m zero x = rw add-zero (drop_of_length-le (bytes m x) (omega (arith, bytes-length m x)))
+last_bytes m (suc n) x =
+    let l : m ≤ length (bytes (m + n) (x / 256)) = omega (arith, bytes-length (m + n) (x / 256)) in
+    rw (add-suc, drop-append-le m (bytes (m + n) (x / 256)) (x % 256 ∷ []) l, last_bytes m n (x / 256))
 
-pub stored8 :
-    (s : List ℕ) (at a b c d e f g h : ℕ) →
-    at + 8 ≤ length s →
-    set (set (set (set (set (set (set (set s at a) (at + 1) b) (at + 2) c) (at + 3) d) (at + 4) e) (at + 5) f) (at + 6) g) (at + 7) h
-    ≡ take at s ++ ((a ∷ b ∷ c ∷ d ∷ e ∷ f ∷ g ∷ h ∷ []) ++ drop (at + 8) s)
-stored8 s at a b c d e f g h l =
-    let e₁ : at + 1 ≡ suc at = omega arith in
-    let e₂ : at + 2 ≡ suc (suc at) = omega arith in
-    let e₃ : at + 3 ≡ suc (suc (suc at)) = omega arith in
-    let e₄ : at + 4 ≡ suc (suc (suc (suc at))) = omega arith in
-    let e₅ : at + 5 ≡ suc (suc (suc (suc (suc at)))) = omega arith in
-    let e₆ : at + 6 ≡ suc (suc (suc (suc (suc (suc at))))) = omega arith in
-    let e₇ : at + 7 ≡ suc (suc (suc (suc (suc (suc (suc at)))))) = omega arith in
-    rw (e₁, e₂, e₃, e₄, e₅, e₆, e₇) (stored s at (a ∷ b ∷ c ∷ d ∷ e ∷ f ∷ g ∷ h ∷ []) l)
+pub last-of-eight : (n x : ℕ) → n ≤ 8 → drop (8 - n) (to_be_bytes w64 x) ≡ bytes n x
+last-of-eight n x l =
+    let e : 8 - n + n ≡ 8 = omega arith in
+    ap (drop (8 - n)) (bytes-eight x ∙ ap (λ (k : ℕ). bytes k x) (sym e)) ∙ last_bytes (8 - n) n x

@@ -1,6 +1,5 @@
 -- Definitions that recur on an index, as a loop over 0 .. n-1 does, and on a list.
-use Rattle.std.specs.Prelude.{Bool, true, cond, ◌&&◌, List, [], ◌∷◌, ◌++◌, ℕ, zero, suc, ◌+◌, min, get_or, set}
-use Rattle.std.proofs.Math.Option.{Option, none, some}
+use Rattle.std.specs.Prelude.{Bool, true, cond, ◌&&◌, List, [], ◌∷◌, ◌++◌, ℕ, zero, suc, ◌+◌, min, get_or, set, Option, None, Some}
 
 -- how many of 0 .. n-1 pass the test
 unfoldable pub how_many : (ℕ → Bool) → ℕ → ℕ
@@ -14,13 +13,13 @@ all_below q (suc k) = all_below q k && q k
 
 -- the lesser of a number and of one that may be missing
 unfoldable pub lesser : ℕ → Option ℕ → ℕ
-lesser x none = x
-lesser x (some y) = min x y
+lesser x None = x
+lesser x (Some y) = min x y
 
 -- the least f k of the k in 0 .. n-1 that are taken; none where none is
 unfoldable pub least : (ℕ → Bool) → (ℕ → ℕ) → ℕ → Option ℕ
-least take f zero = none
-least take f (suc k) = cond (take k) (some (lesser (f k) (least take f k))) (least take f k)
+least take f zero = None
+least take f (suc k) = cond (take k) (Some (lesser (f k) (least take f k))) (least take f k)
 
 -- every entry of a list passes the test
 unfoldable pub all_in : (ℕ → Bool) → List ℕ → Bool

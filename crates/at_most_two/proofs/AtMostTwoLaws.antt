@@ -1,10 +1,9 @@
 -- What AtMostTwo states of a press of one or two controllers holds (request 2026-04); and what the press is handed there (request 2026-06), and the listing says of it.
+use Rattle.std.specs.Prelude.{Some, unwrap_or}
 use mathlib.Core.Path.{◌≡◌, refl, sym, ap, ◌∙◌}
 use mathlib.Core.Bool.{Bool, true, false, not}
 use mathlib.Core.List.{List, [], ◌∷◌, ◌++◌}
 use mathlib.Core.Logic.{◌⊎◌, inr}
-use mathlib.Core.Option
-use mathlib.Core.Option.{some}
 use Prim.Native.Nat.{ℕ, suc, ◌%◌, ◌^◌, ◌≤◌, ◌<◌}
 use native.Mathlib.Omega.{arith}
 use native.Mathlib.Nat.{mod-eq_of_lt}
@@ -140,7 +139,7 @@ module _
     sends = rw good
 
     -- its own bin says what it computed
-    own : counter_in p box i ≡ some run.counter
+    own : counter_in p box i ≡ Some run.counter
     unfolding mailbox_of
     own =
         counter_in-bin p (heard p sys sensors mask faults i) p.nodes (heard-length p sys sensors mask faults i) i l
@@ -151,7 +150,7 @@ module _
     counter-own = rw good (vote-counter-own p two run box i l own)
 
     module _ (size : p.cells ≤ length old.cells) (patterns : Bounded sensors) (bounded : Bounded old.cells) where
-      owns : (c : ℕ) → c < p.cells → voted_in p (before p run.counter) c ≡ true → cell_in p box c i ≡ some (get_or run.cells c 0)
+      owns : (c : ℕ) → c < p.cells → voted_in p (before p run.counter) c ≡ true → cell_in p box c i ≡ Some (get_or run.cells c 0)
       unfolding mailbox_of
       owns c k v =
           cell_in-bin p (heard p sys sensors mask faults i) p.nodes (heard-length p sys sensors mask faults i) i l c k
@@ -352,20 +351,20 @@ unfolding Apart same_memory
 apart-unequal p m s apart = rw (ne_eqb m.counter s.counter (λ e. apart (ap (λ (c : ℕ). c % p.frames) e)))
 
 module _ (p : Plan) (accept : accepted p ≡ true) (two : p.nodes ≤ 2) (sys : System) (sensors : List ℕ) (mask : ℕ) (faults : List ℕ) where
-  puts : (a j : ℕ) → put_out p sys sensors mask faults a j ≡ some (Option.get_or (put_out p sys sensors mask faults a j) 0)
+  puts : (a j : ℕ) → put_out p sys sensors mask faults a j ≡ Some (unwrap_or (put_out p sys sensors mask faults a j) 0)
   unfolding put_out fault_setpoint
   puts a j = split (bad mask j) (λ e. rw e) (λ e. rw e)
 
   -- the plane hands on the remembered value where one of them puts it out, good or bad
   pub handed-remembered :
-      (a j : ℕ) → j < p.nodes → put_out p sys sensors mask faults a j ≡ some (handed_of sys a) → handed_on p sys sensors mask faults a ≡ handed_of sys a
+      (a j : ℕ) → j < p.nodes → put_out p sys sensors mask faults a j ≡ Some (handed_of sys a) → handed_on p sys sensors mask faults a ≡ handed_of sys a
   unfolding handed_on
   handed-remembered a j l e = plane-remembered (put_out p sys sensors mask faults a) p.nodes two (handed_of sys a) j l e
 
   -- else what node 0 puts out, good or bad
   pub handed-first :
-      (a : ℕ) → ((j : ℕ) → j < p.nodes → put_out p sys sensors mask faults a j ≡ some (handed_of sys a) → ⊥) →
-      handed_on p sys sensors mask faults a ≡ Option.get_or (put_out p sys sensors mask faults a 0) 0
+      (a : ℕ) → ((j : ℕ) → j < p.nodes → put_out p sys sensors mask faults a j ≡ Some (handed_of sys a) → ⊥) →
+      handed_on p sys sensors mask faults a ≡ unwrap_or (put_out p sys sensors mask faults a 0) 0
   unfolding handed_on
   handed-first a nobody =
       plane-first (put_out p sys sensors mask faults a) p.nodes two (handed_of sys a) _ (shape-of-accepted p accept).nodes-low (puts a 0) nobody
@@ -399,14 +398,14 @@ module _ (p : Plan) (accept : accepted p ≡ true) (two : p.nodes ≤ 2) (sys : 
 -- of one controller the plane hands on what it puts out, good or bad, whatever is remembered
 pub place-one :
     (p : Plan) → accepted p ≡ true → p.nodes ≡ 1 → (sys : System) (sensors : List ℕ) (mask : ℕ) (faults place : List ℕ) →
-    place_after p sys sensors mask faults place ≡ fill (λ a. Option.get_or (put_out p sys sensors mask faults a 0) 0) p.actuators place
+    place_after p sys sensors mask faults place ≡ fill (λ a. unwrap_or (put_out p sys sensors mask faults a 0) 0) p.actuators place
 unfolding place_after handed_on
 place-one p accept one sys sensors mask faults place =
     fill-same _ _ p.actuators place
     (λ a l.
     let put = put_out p sys sensors mask faults a in
     let held = holders-held put p.nodes 0 (omega arith) (puts p accept (omega arith) sys sensors mask faults a 0) in
-    plane-of-most put p.nodes (handed_of sys a) (Option.get_or (put 0) 0) (omega (arith, one, held)))
+    plane-of-most put p.nodes (handed_of sys a) (unwrap_or (put 0) 0) (omega (arith, one, held)))
 
 -- one controller alone agrees with itself in every frame in which it is good, whatever it holds
 pub one-agrees :

@@ -1,6 +1,5 @@
 -- Request 2026-04: one and two controllers. What holds of such a press beside demand 3; the laws are in AtMostTwoLaws. Request 2026-06: what the plane hands on there.
-use Rattle.std.specs.Prelude.{◌≡◌, Bool, true, cond, ◌↔◌, List, [], ◌∷◌, ◌++◌, ℕ, ◌%◌, ◌≤◌, ◌<◌, eqb, ltb, get_or}
-use Rattle.std.proofs.Math.Option
+use Rattle.std.specs.Prelude.{◌≡◌, Bool, true, cond, ◌↔◌, List, [], ◌∷◌, ◌++◌, ℕ, ◌%◌, ◌≤◌, ◌<◌, eqb, ltb, get_or, unwrap_or}
 use Rattle.array.specs.Index.{all_in}
 use Rattle.plan.specs.declared.Plan.{Plan}
 use Rattle.plan.specs.Accepted.{accepted}
@@ -64,4 +63,4 @@ module _ (p : Plan) (sys : System) (sensors : List ℕ) (mask : ℕ) (faults : L
   remembered_or_first a =
       cond (ltb 0 (holders (put_out p sys sensors mask faults a) p.nodes (handed_of sys a)))
       (handed_of sys a)
-      (Option.get_or (put_out p sys sensors mask faults a 0) 0)
+      (unwrap_or (put_out p sys sensors mask faults a 0) 0)

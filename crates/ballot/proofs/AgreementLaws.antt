@@ -1,6 +1,6 @@
 -- Laws of a vote's agreement: above 0 exactly where there is a voted value, then above half; and what each of a vote's cases gives.
+use Rattle.std.specs.Prelude.{Option, None, Some}
 use mathlib.Core.Path.{◌≡◌, refl, ap, ◌∙◌}
-use mathlib.Core.Option.{Option, none, some}
 use Prim.Native.Nat.{ℕ, ◌*◌, ◌≤◌, ◌<◌}
 use native.Mathlib.Omega.{arith}
 use Rattle.array.proofs.IndexLaws.{how_many-bound}
@@ -12,11 +12,11 @@ unfolding holders
 holders-bound bin n v = how_many-bound (λ j. holds (bin j) v) n
 
 module _ (bin : ℕ → Option ℕ) (n : ℕ) where
-  pub agreement-some : (x : ℕ) → majority bin n ≡ some x → agreement bin n ≡ holders bin n x
+  pub agreement-some : (x : ℕ) → majority bin n ≡ Some x → agreement bin n ≡ holders bin n x
   unfolding agreement backing
   agreement-some x e = rw e
 
-  pub agreement-none : majority bin n ≡ none → agreement bin n ≡ 0
+  pub agreement-none : majority bin n ≡ None → agreement bin n ≡ 0
   unfolding agreement backing
   agreement-none e = rw e
 
@@ -28,19 +28,19 @@ module _ (bin : ℕ → Option ℕ) (n : ℕ) where
   agreement-bound = by (majority bin n) refl
     where
       by : (o : Option ℕ) → majority bin n ≡ o → agreement bin n ≤ n
-      by none e = rw (agreement-none e) (omega arith)
-      by (some x) e = rw (agreement-some x e) (holders-bound bin n x)
+      by None e = rw (agreement-none e) (omega arith)
+      by (Some x) e = rw (agreement-some x e) (holders-bound bin n x)
 
   -- above 0 exactly where there is a voted value, and then above half
-  pub agreement-half : (x : ℕ) → majority bin n ≡ some x → n < 2 * agreement bin n
+  pub agreement-half : (x : ℕ) → majority bin n ≡ Some x → n < 2 * agreement bin n
   agreement-half x e = rw (agreement-some x e) (majority-some bin n x e)
 
-  pub agreement-value : 0 < agreement bin n → (x : ℕ) × (majority bin n ≡ some x)
+  pub agreement-value : 0 < agreement bin n → (x : ℕ) × (majority bin n ≡ Some x)
   agreement-value h = by (majority bin n) refl
     where
-      by : (o : Option ℕ) → majority bin n ≡ o → (x : ℕ) × (majority bin n ≡ some x)
-      by none e = absurd (omega (arith, agreement-none e))
-      by (some x) e = (x, e)
+      by : (o : Option ℕ) → majority bin n ≡ o → (x : ℕ) × (majority bin n ≡ Some x)
+      by None e = absurd (omega (arith, agreement-none e))
+      by (Some x) e = (x, e)
 
 pub agreement-same : (f g : ℕ → Option ℕ) (n : ℕ) → ((j : ℕ) → j < n → f j ≡ g j) → agreement f n ≡ agreement g n
 unfolding agreement

@@ -1,7 +1,7 @@
 -- Laws of values that are what bins hold, in their order: a loop that reads them one by one, and the plane on them.
+use Rattle.std.specs.Prelude.{Option, Some}
 use mathlib.Core.Path.{◌≡◌, sym, ap, ◌∙◌}
 use mathlib.Core.List.{List}
-use mathlib.Core.Option.{Option, some}
 use Prim.Native.Nat.{ℕ, ◌+◌, ◌<◌}
 use native.Mathlib.Omega.{arith}
 use native.Mathlib.Nat.{not-suc-le-zero}
@@ -20,11 +20,11 @@ module _ (bin : ℕ → Option ℕ) (values : List ℕ) where
   pub told_none : Told bin 0 values
   told_none j l = absurd (not-suc-le-zero l)
 
-  pub told-next : (j w : ℕ) → j < length values → bin j ≡ some w → Told bin j values → Told bin (j + 1) (set values j w)
+  pub told-next : (j w : ℕ) → j < length values → bin j ≡ Some w → Told bin j values → Told bin (j + 1) (set values j w)
   told-next j w l e t i m =
       split (eqb i j)
       (λ q. rw (eqb-true i j q, get_or-set_same values j w 0 l) e)
-      (λ q. t i (omega (arith, eqb-false i j q)) ∙ ap some (sym (get_or-set_other values j i w 0 (eqb-false i j q))))
+      (λ q. t i (omega (arith, eqb-false i j q)) ∙ ap Some (sym (get_or-set_other values j i w 0 (eqb-false i j q))))
 
 module _ (bin : ℕ → Option ℕ) (n : ℕ) (values : List ℕ) (t : Told bin n values) where
   pub told-packs : Packs bin n values n

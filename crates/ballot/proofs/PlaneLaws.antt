@@ -1,10 +1,10 @@
 -- Laws of the plane. It hands on a value that no other has more holders than: the remembered one where that is so of it, else, of those that are tied, the
 -- one whose lowest holder is lowest. So a value with more holders than every other is handed on whatever is remembered, and the plane leaves a remembered value
 -- only for one with more holders.
+use Rattle.std.specs.Prelude.{Option, None, Some, unwrap_or}
 use mathlib.Core.Path.{◌≡◌, refl, sym, ap, ◌∙◌}
 use mathlib.Core.Bool.{true, false}
 use mathlib.Core.Logic.{◌⊎◌, inl, inr, ⊎_elim}
-use mathlib.Core.Option.{Option, none, some, get_or}
 use Prim.Native.Nat.{ℕ, zero, suc, ◌+◌, ◌*◌, ◌≤◌, ◌<◌}
 use native.Mathlib.Omega.{arith}
 use native.Mathlib.Nat.{le_refl, not-suc-le-zero}
@@ -22,9 +22,9 @@ use Rattle.ballot.proofs.ScanLaws.{holders-held}
 pub record Lowest (put : ℕ → Option ℕ) (n v : ℕ) : Type 0 where
   pub holder : ℕ
   pub below : holder < n
-  pub holds : put holder ≡ some v
-  pub most : (j w : ℕ) → j < n → put j ≡ some w → holders put n w ≤ holders put n v
-  pub lowest : (j w : ℕ) → j < n → put j ≡ some w → holders put n w ≡ holders put n v → holder ≤ j
+  pub holds : put holder ≡ Some v
+  pub most : (j w : ℕ) → j < n → put j ≡ Some w → holders put n w ≤ holders put n v
+  pub lowest : (j w : ℕ) → j < n → put j ≡ Some w → holders put n w ≡ holders put n v → holder ≤ j
 
 -- what is handed on where r is remembered
 pub record Handed (put : ℕ → Option ℕ) (n r v : ℕ) : Type 0 where
@@ -43,7 +43,7 @@ module _ (put : ℕ → Option ℕ) (n : ℕ) where
   abbrev best : ℕ → Option ℕ
   best k = most_held put n k
 
-  backing-is : {o : Option ℕ} {w : ℕ} → o ≡ some w → backing put n o ≡ holders put n w
+  backing-is : {o : Option ℕ} {w : ℕ} → o ≡ Some w → backing put n o ≡ holders put n w
   unfolding backing
   backing-is e = rw e
 
@@ -68,13 +68,13 @@ module _ (put : ℕ → Option ℕ) (n : ℕ) where
       (λ q. best-most k j (omega (arith, eqb-false j k q)))))
 
   -- the lowest of the first k nodes whose value is shared by as many as the best
-  best-holder : (k v : ℕ) → best k ≡ some v → (h : ℕ) × (h < k) × (put h ≡ some v) × ((j : ℕ) → j < k → shared j ≡ holders put n v → h ≤ j)
+  best-holder : (k v : ℕ) → best k ≡ Some v → (h : ℕ) × (h < k) × (put h ≡ Some v) × ((j : ℕ) → j < k → shared j ≡ holders put n v → h ≤ j)
   unfolding most_held
   best-holder zero v e = absurd (no-some e)
   best-holder (suc k) v e =
       split (ltb (backing put n (best k)) (shared k))
       (λ t.
-      let here : put k ≡ some v = sym (best-new k t) ∙ e in (
+      let here : put k ≡ Some v = sym (best-new k t) ∙ e in (
         k,
         omega arith,
         here,
@@ -99,7 +99,7 @@ module _ (put : ℕ → Option ℕ) (n : ℕ) where
 
   -- ---- the old rule
 
-  held-lowest : (v : ℕ) → most_held put n n ≡ some v → Lowest put n v
+  held-lowest : (v : ℕ) → most_held put n n ≡ Some v → Lowest put n v
   held-lowest v e =
       let r = best-holder n v e in
       record {
@@ -117,7 +117,7 @@ module _ (put : ℕ → Option ℕ) (n : ℕ) where
       let low : a.holder ≤ b.holder = a.lowest b.holder w b.below b.holds (sym even) in
       let high : b.holder ≤ a.holder = b.lowest a.holder v a.below a.holds even in
       let same : a.holder ≡ b.holder = omega arith in
-      let one : some v ≡ some w = sym a.holds ∙ ap put same ∙ b.holds in
+      let one : Some v ≡ Some w = sym a.holds ∙ ap put same ∙ b.holds in
       cc
 
   -- ---- the remembered value
@@ -134,20 +134,20 @@ module _ (put : ℕ → Option ℕ) (n : ℕ) where
 
   backing-under : (r : ℕ) → ((w : ℕ) → holders put n w ≤ holders put n r) → (o : Option ℕ) → backing put n o ≤ holders put n r
   unfolding backing
-  backing-under r f none = omega arith
-  backing-under r f (some w) = f w
+  backing-under r f None = omega arith
+  backing-under r f (Some w) = f w
 
   all-none-more : (r : ℕ) → ((w : ℕ) → holders put n w ≤ holders put n r) → none_more put n r ≡ true
   unfolding none_more
   all-none-more r f = all_below-all (λ j. leb (shared j) (holders put n r)) n (λ j l. le-leb _ _ (backing-under r f (put j)))
 
   -- else the old rule's value has more
-  held_more : (r : ℕ) (o : Option ℕ) → best n ≡ o → holders put n r < backing put n (best n) → (v : ℕ) × (best n ≡ some v) × (holders put n r < holders put n v)
+  held_more : (r : ℕ) (o : Option ℕ) → best n ≡ o → holders put n r < backing put n (best n) → (v : ℕ) × (best n ≡ Some v) × (holders put n r < holders put n v)
   unfolding backing
-  held_more r none q l = absurd (omega (arith, l, ap (backing put n) q))
-  held_more r (some v) q l = (v, q, omega (arith, l, backing-is q))
+  held_more r None q l = absurd (omega (arith, l, ap (backing put n) q))
+  held_more r (Some v) q l = (v, q, omega (arith, l, backing-is q))
 
-  some_more : (r : ℕ) → none_more put n r ≡ false → (v : ℕ) × (most_held put n n ≡ some v) × (holders put n r < holders put n v)
+  some_more : (r : ℕ) → none_more put n r ≡ false → (v : ℕ) × (most_held put n n ≡ Some v) × (holders put n r < holders put n v)
   unfolding none_more
   some_more r e =
       split (ltb (holders put n r) (backing put n (best n)))
@@ -161,7 +161,7 @@ module _ (put : ℕ → Option ℕ) (n : ℕ) where
   plane-kept r f = rw (all-none-more r f)
 
   -- "if it isn't among them, the old rule decides"
-  pub plane-old : (r w : ℕ) → holders put n r < holders put n w → most_held put n n ≡ some (plane put n r)
+  pub plane-old : (r w : ℕ) → holders put n r < holders put n w → most_held put n n ≡ Some (plane put n r)
   unfolding plane
   plane-old r w more =
       split (none_more put n r)
@@ -180,8 +180,8 @@ module _ (put : ℕ → Option ℕ) (n : ℕ) where
       old : none_more put n r ≡ false → Handed put n r (plane put n r)
       old t =
           let v = some_more r t in
-          let held : most_held put n n ≡ some (plane put n r) = plane-old r v.0 v.2 in
-          let one : some v.0 ≡ some (plane put n r) = sym v.1 ∙ held in
+          let held : most_held put n n ≡ Some (plane put n r) = plane-old r v.0 v.2 in
+          let one : Some v.0 ≡ Some (plane put n r) = sym v.1 ∙ held in
           let is : v.0 ≡ plane put n r = cc in
           let more : holders put n r < holders put n (plane put n r) = rw is at v.2 in
           let low : Lowest put n (plane put n r) = held-lowest (plane put n r) held in
@@ -218,11 +218,11 @@ module _ (put : ℕ → Option ℕ) (n : ℕ) where
       (omega (arith, (plane-handed r).most r, ltb-false (holders put n r) (holders put n (plane put n r)) t)))))
 
   -- where somebody puts out something, what is handed on has a holder
-  pub plane-held : (r j v : ℕ) → j < n → put j ≡ some v → 0 < holders put n (plane put n r)
+  pub plane-held : (r j v : ℕ) → j < n → put j ≡ Some v → 0 < holders put n (plane put n r)
   plane-held r j v l e = omega (arith, holders-held put n j l e, (plane-handed r).most v)
 
   -- where all are silent, the remembered value stays
-  pub plane-silent : (r : ℕ) → ((j : ℕ) → j < n → put j ≡ none) → plane put n r ≡ r
+  pub plane-silent : (r : ℕ) → ((j : ℕ) → j < n → put j ≡ None) → plane put n r ≡ r
   plane-silent r silent =
       plane-kept r
       (λ w. split (ltb 0 (holders put n w))
@@ -234,7 +234,7 @@ module _ (put : ℕ → Option ℕ) (n : ℕ) where
   unfolding holders
   holders-apart v w apart =
       how_many-apart (λ j. holds (put j) v) (λ j. holds (put j) w) n
-      (λ j x y. let s : some v ≡ some w = sym (holds-true (put j) v x) ∙ holds-true (put j) w y in apart (cc))
+      (λ j x y. let s : Some v ≡ Some w = sym (holds-true (put j) v x) ∙ holds-true (put j) w y in apart (cc))
 
   -- a value that more than half put out is handed on
   pub plane-of-most : (r v : ℕ) → n < 2 * holders put n v → plane put n r ≡ v
@@ -242,10 +242,10 @@ module _ (put : ℕ → Option ℕ) (n : ℕ) where
 
   -- ---- the loop that begins with the remembered value
 
-  is_some : (r : ℕ) (o : Option ℕ) → 0 < backing put n o → o ≡ some (get_or o r)
+  is_some : (r : ℕ) (o : Option ℕ) → 0 < backing put n o → o ≡ Some (unwrap_or o r)
   unfolding backing
-  is_some r none l = absurd (omega arith)
-  is_some r (some x) l = refl
+  is_some r None l = absurd (omega arith)
+  is_some r (Some x) l = refl
 
   module _ (r : ℕ) where
     -- r is kept after k nodes, where none of them puts out a value with more holders; else it is the old rule's of these
@@ -253,7 +253,7 @@ module _ (put : ℕ → Option ℕ) (n : ℕ) where
     Kept k = (backing put n (best k) ≤ holders put n r) × (best_from put n r k ≡ r)
 
     abbrev Left : ℕ → Type 0
-    Left k = (holders put n r < backing put n (best k)) × (best k ≡ some (best_from put n r k))
+    Left k = (holders put n r < backing put n (best k)) × (best k ≡ Some (best_from put n r k))
 
     kept_new : (k : ℕ) → Kept k → holders put n r < shared k → Left (suc k)
     unfolding best_from most_held
@@ -295,8 +295,8 @@ module _ (put : ℕ → Option ℕ) (n : ℕ) where
         ⊎_elim
         (λ c. c.1 ∙ sym (plane-kept r (λ w. omega (arith, c.0, under w))))
         (λ c.
-        let held : most_held put n n ≡ some (plane put n r) = plane-old r (best_from put n r n) (omega (arith, c.0, backing-is c.1)) in
-        let one : some (best_from put n r n) ≡ some (plane put n r) = sym c.1 ∙ held in
+        let held : most_held put n n ≡ Some (plane put n r) = plane-old r (best_from put n r n) (omega (arith, c.0, backing-is c.1)) in
+        let one : Some (best_from put n r n) ≡ Some (plane put n r) = sym c.1 ∙ held in
         cc)
         (reached n)
       where

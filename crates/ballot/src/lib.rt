@@ -5,13 +5,6 @@ use plan::Plan;
 
 pub mod step;
 
-// A value that more than half of the bins share, if there is one.
-#[derive(Clone, Copy)]
-pub enum Voted {
-    Value(u64),
-    Nothing,
-}
-
 // Words packed: the first `count` are those that are there.
 #[derive(Clone, Copy)]
 pub struct Words {

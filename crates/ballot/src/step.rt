@@ -1,12 +1,10 @@
 // The steps of a vote, for callers that know how many bins there are. Of n bins, k hold something; their values stand packed in the front of an array.
-ghost use Rattle.std.specs.Prelude.{◌≡◌, ◌<◌, ◌≤◌, min as min_of};
-ghost use Rattle.std.proofs.Math.Option.{get_or};
+ghost use Rattle.std.specs.Prelude.{◌≡◌, ◌<◌, ◌≤◌};
 ghost use Rattle.plan.specs.Limits.{most_nodes, most_frames};
 ghost use Rattle.ballot.specs.Majority.{holders as holders_of, backing, majority as majority_of, or_own};
-ghost use Rattle.ballot.specs.Code.{voted_value, packed};
+ghost use Rattle.ballot.specs.Code.{packed};
 ghost use Rattle.ballot.specs.Plane.{plane as plane_of};
 
-use super::Voted;
 use plan::Plan;
 
 // How many of the first k values are x.
@@ -15,79 +13,56 @@ pub fn holders(values: &[u64; Plan::NODES], k: usize, x: u64) -> usize
     ensures { result ≡ holders_of (packed values.now k) k x }
 {
     let mut held: usize = 0;
-    let mut j: usize = 0;
-    while j < k {
+    for j in 0..k {
         if values[j] == x {
             held += 1;
         }
-        j += 1;
     }
     held
 }
 
 // The value of the first of k bins that more than half of n share.
-pub fn majority(values: &[u64; Plan::NODES], k: usize, n: usize) -> Voted
+pub fn majority(values: &[u64; Plan::NODES], k: usize, n: usize) -> Option<u64>
     requires { (k ≤ n) × (n ≤ most_nodes) }
-    ensures { voted_value result ≡ majority_of (packed values.now k) n }
+    ensures { result ≡ majority_of (packed values.now k) n }
 {
-    let mut found = Voted::Nothing;
-    let mut i: usize = 0;
-    'candidates: while i < k {
+    for i in 0..k {
         let x = values[i];
         let mut held: usize = 0;
-        let mut j: usize = 0;
-        while j < k {
+        for j in 0..k {
             if values[j] == x {
                 held += 1;
                 if n < 2 * held {
-                    found = Voted::Value(x);
-                    break 'candidates;
+                    return Some(x);
                 }
             }
-            j += 1;
         }
-        i += 1;
     }
-    found
+    None
 }
 
 // How many of the first k values are the voted one.
-pub fn agreement(values: &[u64; Plan::NODES], k: usize, v: Voted) -> usize
+pub fn agreement(values: &[u64; Plan::NODES], k: usize, v: Option<u64>) -> usize
     requires { k ≤ most_nodes }
-    ensures { result ≡ backing (packed values.now k) k (voted_value v) }
+    ensures { result ≡ backing (packed values.now k) k v }
 {
-    let Voted::Value(x) = v else {
+    let Some(x) = v else {
         return 0;
     };
     holders(values, k, x)
 }
 
-pub fn min(x: usize, y: usize) -> usize
-    ensures { result ≡ min_of x y }
-{
-    if y < x { y } else { x }
-}
-
-pub fn or_own(frames: usize, own: u16, v: Voted) -> u16
+pub fn or_own(frames: usize, own: u16, v: Option<u64>) -> u16
     requires { frames ≤ most_frames }
-    ensures { result ≡ or_own frames own (voted_value v) }
+    ensures { result ≡ or_own frames own v }
 {
-    let Voted::Value(x) = v else {
+    let Some(x) = v else {
         return own;
     };
     if x < frames as u64 {
         return x as u16;
     }
     own
-}
-
-pub fn or_old(v: Voted, old: u64) -> u64
-    ensures { result ≡ get_or (voted_value v) old }
-{
-    match v {
-        Voted::Value(x) => x,
-        Voted::Nothing => old,
-    }
 }
 
 // The value that most of k nodes put out; of tied ones the remembered, else that of the lowest holder. By counting the holders of each:
@@ -97,15 +72,13 @@ fn most_held(values: &[u64; Plan::NODES], k: usize, remembered: u64) -> u64
 {
     let mut best = remembered;
     let mut most = holders(values, k, best);
-    let mut i: usize = 0;
-    while i < k {
+    for i in 0..k {
         let x = values[i];
         let held = holders(values, k, x);
         if most < held {
             best = x;
             most = held;
         }
-        i += 1;
     }
     best
 }
@@ -115,8 +88,8 @@ pub fn plane(values: &[u64; Plan::NODES], k: usize, remembered: u64) -> u64
     requires { k ≤ most_nodes }
     ensures { result ≡ plane_of (packed values.now k) k remembered }
 {
-    let Voted::Value(x) = majority(values, k, k) else {
-        return most_held(values, k, remembered);
-    };
-    x
+    match majority(values, k, k) {
+        Some(x) => x,
+        None => most_held(values, k, remembered),
+    }
 }

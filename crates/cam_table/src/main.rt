@@ -19,24 +19,18 @@ fn entry(i: u64) -> u64
     (1536 * square - 2 * (square * i) + 1024) / 2048
 }
 
-// A write that fails is passed over.
-fn print_bytes<R: Print>(rt: &R, bytes: &[u8]) {
-    let mut out = io::writer(rt);
-    let _ = out.write_all(bytes);
-}
-
 fn print_line<R: Print>(rt: &R, v: u64) {
     let mut shown = [0u8; WIDTH];
     column_write::write(&mut shown, v);
-    print_bytes(rt, b"    ");
-    print_bytes(rt, column::digits(&shown, 0, WIDTH));
-    print_bytes(rt, b",\n");
+    // A write that fails is passed over.
+    let mut out = io::writer(rt);
+    let _ = out.write_all(b"    ");
+    let _ = out.write_all(column::digits(&shown, 0, WIDTH));
+    let _ = out.write_all(b",\n");
 }
 
 fn main(rt: HostRuntime) {
-    let mut i: u64 = 0;
-    while i <= LAST {
+    for i in 0..LAST + 1 {
         print_line(&rt, entry(i));
-        i += 1;
     }
 }

@@ -1,4 +1,5 @@
--- Laws for the proofs of the calls: what is answered, and what becomes of the card, by the way a call goes. Each call tests the plan, then one thing more.
+-- Laws for the proofs of the calls: what a call gives, and what becomes of the card, by the way it goes. Each call tests the plan, then one thing more.
+use Rattle.std.specs.Prelude.{Result, Ok, Err}
 use mathlib.Core.Path.{◌≡◌, refl, sym, ◌∙◌}
 use mathlib.Core.Bool.{Bool, true, false, not, ◌&&◌, ◌||◌}
 use mathlib.Core.List.{List}
@@ -7,12 +8,14 @@ use native.Mathlib.Omega.{arith}
 use native.Mathlib.Nat.{mul-le-mul}
 use lib.Dec.{eqb, ltb}
 use lib.ListN.{length}
-use Rattle.answer.specs.declared.Answer.{Answer}
-use Rattle.answer.specs.declared.Answer.TheVariants.{Done, InvalidPlan, WrongLength, PageAccess}
-use Rattle.answer.specs.Tests.{passed, answered, if_passed}
+use Rattle.answer.specs.declared.Refusal.{Refusal}
+use Rattle.answer.specs.declared.Refusal.TheVariants.{WrongLength, PageAccess}
+use Rattle.answer.specs.Tests.{passed, refused, unless, given, if_passed}
 use Rattle.plan.specs.declared.Plan.{Plan}
 use Rattle.plan.specs.Limits.{most_nodes, most_cells}
 use Rattle.plan.specs.Accepted.{accepted}
+use Rattle.plan_period.specs.Answers.{period_found}
+use Rattle.plan_period.proofs.AnswerLaws.{unaccepted, call-refused}
 use Rattle.memory.specs.Size.{message_size}
 use Rattle.card_page.specs.declared.CardState.{CardState}
 use Rattle.card_page.specs.Page.{page_size, mask_at, clear_at, page_byte}
@@ -20,9 +23,7 @@ use Rattle.card_bins.specs.Bins.{slot_size}
 use Rattle.card_step.specs.CardParts.{CardParts, ticked_place}
 use Rattle.card_step.specs.Calls.{CardCall, reading, writing, delivery, ticking, card_tests, card_answer, card_done, card_after, byte_read, place_left}
 use Rattle.card.specs.declared.Card.{Card}
-use Rattle.card.specs.declared.CardOutcome.{CardOutcome}
-use Rattle.card.specs.declared.PageRead.{PageRead}
-use Rattle.card.specs.Card.{most_bins, parts_of, card_of, card_outcome, page_read}
+use Rattle.card.specs.Card.{most_bins, parts_of, card_of, card_left, page_read}
 
 -- ---- what a call tests beside the plan, and its refusal
 
@@ -33,7 +34,7 @@ module _ (p : Plan) where
   second (delivery number message) = eqb (length message) (message_size p)
   second (ticking sensors place) = eqb (length sensors) p.sensors && eqb (length place) p.actuators
 
-  abbrev pub refusal : CardCall → Answer
+  abbrev pub refusal : CardCall → Refusal
   refusal (reading at) = PageAccess
   refusal (writing at value) = PageAccess
   refusal (delivery number message) = WrongLength
@@ -46,12 +47,12 @@ module _ (p : Plan) where
   plan-passed (delivery number message) e = rw e
   plan-passed (ticking sensors place) e = rw e
 
-  plan-answer : (c : CardCall) → accepted p ≡ false → InvalidPlan ≡ card_answer p c
-  unfolding card_answer card_tests answered
-  plan-answer (reading at) e = rw e
-  plan-answer (writing at value) e = rw e
-  plan-answer (delivery number message) e = rw e
-  plan-answer (ticking sensors place) e = rw e
+  plan-answer : (c : CardCall) {r : Refusal} → period_found p ≡ Err r → Err r ≡ card_answer p c
+  unfolding card_answer card_tests
+  plan-answer (reading at) e = sym (call-refused p e _ tt)
+  plan-answer (writing at value) e = sym (call-refused p e _ tt)
+  plan-answer (delivery number message) e = sym (call-refused p e _ tt)
+  plan-answer (ticking sensors place) e = sym (call-refused p e _ tt)
 
   second-passed : (c : CardCall) {b : Bool} → accepted p ≡ true → second c ≡ b → passed (card_tests p c) ≡ (b && true)
   unfolding card_tests passed
@@ -60,56 +61,59 @@ module _ (p : Plan) where
   second-passed (delivery number message) e f = rw (e, f)
   second-passed (ticking sensors place) e f = rw (e, f)
 
-  second-answer : (c : CardCall) → accepted p ≡ true → second c ≡ false → refusal c ≡ card_answer p c
-  unfolding card_answer card_tests answered
+  second-answer : (c : CardCall) → accepted p ≡ true → second c ≡ false → Err (refusal c) ≡ card_answer p c
+  unfolding card_answer card_tests given unless refused
   second-answer (reading at) e f = rw (e, f)
   second-answer (writing at value) e f = rw (e, f)
   second-answer (delivery number message) e f = rw (e, f)
   second-answer (ticking sensors place) e f = rw (e, f)
 
-  done-answer : (c : CardCall) → accepted p ≡ true → second c ≡ true → Done ≡ card_answer p c
-  unfolding card_answer card_tests answered
+  done-answer : (c : CardCall) → accepted p ≡ true → second c ≡ true → Ok tt ≡ card_answer p c
+  unfolding card_answer card_tests given unless refused
   done-answer (reading at) e f = rw (e, f)
   done-answer (writing at value) e f = rw (e, f)
   done-answer (delivery number message) e f = rw (e, f)
   done-answer (ticking sensors place) e f = rw (e, f)
 
-  -- ---- the outcome
+  -- ---- what a call that changes the card gives, and the card
+
+  abbrev pub Called : Card → CardCall → Result (Unit {0}) Refusal → Card → Type 0
+  Called k c answer left = (answer ≡ card_answer p c) × (left ≡ card_left p k c)
 
   module _ (k : Card) (c : CardCall) where
-    refused : {a : Answer} → a ≡ card_answer p c → passed (card_tests p c) ≡ false → ◌≡◌ {A = CardOutcome} (record { answer = a; card = k }) (card_outcome p k c)
-    unfolding card_outcome card_after if_passed card_of parts_of
-    refused e f = rw (e, f)
+    kept : passed (card_tests p c) ≡ false → k ≡ card_left p k c
+    unfolding card_left card_after if_passed card_of parts_of
+    kept f = rw f
 
-    pub plan-refused : accepted p ≡ false → ◌≡◌ {A = CardOutcome} (record { answer = InvalidPlan; card = k }) (card_outcome p k c)
-    plan-refused e = refused (plan-answer c e) (plan-passed c e)
+    pub plan-refused : {r : Refusal} → period_found p ≡ Err r → Called k c (Err r) k
+    plan-refused e = (plan-answer c e, kept (plan-passed c (unaccepted p e).0))
 
-    pub second-refused : accepted p ≡ true → second c ≡ false → ◌≡◌ {A = CardOutcome} (record { answer = refusal c; card = k }) (card_outcome p k c)
-    second-refused e f = refused (second-answer c e f) (second-passed c e f)
+    pub second-refused : accepted p ≡ true → second c ≡ false → Called k c (Err (refusal c)) k
+    second-refused e f = (second-answer c e f, kept (second-passed c e f))
 
     -- a step on the card's parts, of which the code lends the state and the bins
     pub call-done :
-        {r : CardOutcome} {from s : CardState} {b : List ℕ} (step : CardParts → CardParts) →
+        {left : Card} {from s : CardState} {b : List ℕ} (step : CardParts → CardParts) →
         accepted p ≡ true →
         second c ≡ true →
         step (parts_of k) ≡ card_done p (parts_of k) c →
         from ≡ (parts_of k).state →
         ◌≡◌ {A = CardParts} (record { state = s; bins = b }) (step (record { state = from; bins = k.bins })) →
-        r ≡ record { answer = Done; card = card_of (record { state = s; bins = b }) } →
-        r ≡ card_outcome p k c
-    unfolding card_outcome card_after if_passed parts_of
-    call-done step e f g h i j = j ∙ rw (i, h, sym (done-answer c e f), second-passed c e f, sym g)
+        left ≡ card_of (record { state = s; bins = b }) →
+        Called k c (Ok tt) left
+    unfolding card_left card_after if_passed parts_of
+    call-done step e f g h i j = (done-answer c e f, j ∙ rw (i, h, second-passed c e f, sym g))
 
   -- ---- what else a call gives
 
   module _ (k : Card) (at : ℕ) where
-    pub read-plan : accepted p ≡ false → ◌≡◌ {A = PageRead} (record { answer = InvalidPlan; value = 0 }) (page_read p k at)
-    unfolding page_read byte_read if_passed
-    read-plan e = rw (plan-answer (reading at) e, plan-passed (reading at) e)
+    pub read-plan : {r : Refusal} → period_found p ≡ Err r → Err r ≡ page_read p k at
+    unfolding page_read byte_read card_tests
+    read-plan e = sym (call-refused p e _ _)
 
-    pub read-outside : accepted p ≡ true → ltb at page_size ≡ false → ◌≡◌ {A = PageRead} (record { answer = PageAccess; value = 0 }) (page_read p k at)
-    unfolding page_read byte_read if_passed
-    read-outside e f = rw (second-answer (reading at) e f, second-passed (reading at) e f)
+    pub read-outside : accepted p ≡ true → ltb at page_size ≡ false → Err PageAccess ≡ page_read p k at
+    unfolding page_read byte_read card_tests given unless refused
+    read-outside e f = rw (e, f)
 
     pub read_done :
         {x : ℕ} {s : CardState} →
@@ -117,14 +121,14 @@ module _ (p : Plan) where
         ltb at page_size ≡ true →
         s ≡ (parts_of k).state →
         x ≡ page_byte s at →
-        ◌≡◌ {A = PageRead} (record { answer = Done; value = x }) (page_read p k at)
-    unfolding page_read byte_read if_passed
-    read_done e f g h = rw (done-answer (reading at) e f, second-passed (reading at) e f, h, g)
+        Ok x ≡ page_read p k at
+    unfolding page_read byte_read card_tests given unless refused
+    read_done e f g h = rw (e, f, h, g)
 
   module _ (k : CardParts) (sensors place : List ℕ) where
-    pub place-plan : accepted p ≡ false → place ≡ place_left p k sensors place
+    pub place-plan : {r : Refusal} → period_found p ≡ Err r → place ≡ place_left p k sensors place
     unfolding place_left if_passed
-    place-plan e = rw (plan-passed (ticking sensors place) e)
+    place-plan e = rw (plan-passed (ticking sensors place) (unaccepted p e).0)
 
     pub place-second : accepted p ≡ true → second (ticking sensors place) ≡ false → place ≡ place_left p k sensors place
     unfolding place_left if_passed

@@ -2,10 +2,10 @@
 #![tactic(auto)]
 
 ghost use Rattle.std.specs.Prelude.{◌≡◌};
-ghost use Rattle.card_step.specs.Calls.{writing, delivery, ticking, place_left};
-ghost use Rattle.card.specs.Card.{parts_of, card_of, card_power_on, card_outcome, page_read};
+ghost use Rattle.card_step.specs.Calls.{writing, delivery, ticking, card_answer, place_left};
+ghost use Rattle.card.specs.Card.{parts_of, card_of, card_power_on, card_left, page_read};
 
-use answer::Answer;
+use answer::Refusal;
 use card_page::CardState;
 use memory::Memory;
 use plan::Plan;
@@ -24,144 +24,87 @@ impl Card {
     pub const BINS: usize = Plan::NODES * card_bins::step::SLOT;
 }
 
-// What a call on a card gives.
-#[derive(Clone, Copy)]
-pub struct CardOutcome {
-    pub answer: Answer,
-    pub card: Card,
-}
-
-// What a read gives.
-#[derive(Clone, Copy)]
-pub struct PageRead {
-    pub answer: Answer,
-    pub value: u8,
-}
-
-fn state(card: Card) -> CardState
-    ensures { result ≡ (parts_of card).state }
+fn state(card: &Card) -> CardState
+    ensures { result ≡ (parts_of card.now).state }
 {
-    let memory = card.memory;
     CardState {
-        memory,
+        memory: card.memory,
         phase: card.phase,
         flags: card.flags,
         mask: card.mask,
     }
 }
 
-fn outcome(answer: Answer, state: CardState, bins: [u8; Card::BINS]) -> CardOutcome
-    ensures { result ≡ record { answer = answer; card = card_of (record { state = state; bins = bins }) } }
+fn set_state(card: &mut Card, state: CardState)
+    ensures { card.new ≡ card_of (record { state = state; bins = card.old.bins }) }
 {
-    let memory = state.memory;
-    let card = Card {
-        memory,
-        phase: state.phase,
-        flags: state.flags,
-        mask: state.mask,
-        bins,
-    };
-    CardOutcome { answer, card }
+    card.memory = state.memory;
+    card.phase = state.phase;
+    card.flags = state.flags;
+    card.mask = state.mask;
 }
 
-pub fn power_on(plan: Plan) -> CardOutcome
+pub fn power_on(plan: Plan) -> Result<Card, Refusal>
     ensures { result ≡ card_power_on plan }
 {
-    let bins = [0u8; Card::BINS];
-    if plan_period::accepted_period(plan) == 0 {
-        let memory = memory::zero_memory();
-        let zero = CardState {
-            memory,
-            phase: 0,
-            flags: 0,
-            mask: 0,
-        };
-        return outcome(Answer::InvalidPlan, zero, bins);
-    }
-    let first = card_step::step::power_on(plan);
-    outcome(Answer::Done, first, bins)
+    plan_period::recovery_period(plan)?;
+    let first = card_step::step::power_on(&plan);
+    Ok(Card {
+        memory: first.memory,
+        phase: first.phase,
+        flags: first.flags,
+        mask: first.mask,
+        bins: [0; Card::BINS],
+    })
 }
 
-pub fn read(plan: Plan, card: Card, at: usize) -> PageRead
-    ensures { result ≡ page_read plan card at }
+pub fn read(plan: Plan, card: &Card, at: usize) -> Result<u8, Refusal>
+    ensures { result ≡ page_read plan card.now at }
 {
-    if plan_period::accepted_period(plan) == 0 {
-        return PageRead {
-            answer: Answer::InvalidPlan,
-            value: 0,
-        };
-    }
+    plan_period::recovery_period(plan)?;
     if at >= card_page::step::PAGE {
-        return PageRead {
-            answer: Answer::PageAccess,
-            value: 0,
-        };
+        return Err(Refusal::PageAccess);
     }
-    PageRead {
-        answer: Answer::Done,
-        value: card_page::step::read(state(card), at),
-    }
+    Ok(card_page::step::read(state(card), at))
 }
 
-pub fn write(plan: Plan, card: Card, at: usize, value: u8) -> CardOutcome
-    ensures { result ≡ card_outcome plan card (writing at value) }
+pub fn write(plan: Plan, card: &mut Card, at: usize, value: u8) -> Result<(), Refusal>
+    ensures { (result ≡ card_answer plan (writing at value)) × (card.new ≡ card_left plan card.old (writing at value)) }
 {
-    if plan_period::accepted_period(plan) == 0 {
-        return CardOutcome {
-            answer: Answer::InvalidPlan,
-            card,
-        };
-    }
+    plan_period::recovery_period(plan)?;
     if (at != card_page::step::MASK) & (at != card_page::step::CLEAR) {
-        return CardOutcome {
-            answer: Answer::PageAccess,
-            card,
-        };
+        return Err(Refusal::PageAccess);
     }
     let next = card_page::step::write(state(card), at, value);
-    let bins = card.bins;
-    outcome(Answer::Done, next, bins)
+    set_state(card, next);
+    Ok(())
 }
 
-pub fn deliver(plan: Plan, card: Card, number: usize, message: &[u8]) -> CardOutcome
-    ensures { result ≡ card_outcome plan card (delivery number message.now) }
+pub fn deliver(plan: Plan, card: &mut Card, number: usize, message: &[u8]) -> Result<(), Refusal>
+    ensures { (result ≡ card_answer plan (delivery number message.now)) × (card.new ≡ card_left plan card.old (delivery number message.now)) }
 {
-    if plan_period::accepted_period(plan) == 0 {
-        return CardOutcome {
-            answer: Answer::InvalidPlan,
-            card,
-        };
-    }
+    plan_period::recovery_period(plan)?;
     let cells = plan.cells;
     if message.len() != memory::step::message_size(cells) {
-        return CardOutcome {
-            answer: Answer::WrongLength,
-            card,
-        };
+        return Err(Refusal::WrongLength);
     }
-    let mut bins = card.bins;
-    let next = card_step::step::deliver(plan.nodes, cells, state(card), &mut bins, number, message);
-    outcome(Answer::Done, next, bins)
+    let before = state(card);
+    let next = card_step::step::deliver(plan.nodes, cells, before, &mut card.bins, number, message);
+    set_state(card, next);
+    Ok(())
 }
 
-pub fn tick(plan: Plan, card: Card, sensors: &[u64], place: &mut [u64]) -> CardOutcome
-    ensures { (result ≡ card_outcome plan card (ticking sensors.now place.old)) × (place.new ≡ place_left plan (parts_of card) sensors.now place.old) }
+pub fn tick(plan: Plan, card: &mut Card, sensors: &[u64], place: &mut [u64]) -> Result<(), Refusal>
+    ensures { (result ≡ card_answer plan (ticking sensors.now place.old)) × (card.new ≡ card_left plan card.old (ticking sensors.now place.old)) × (place.new ≡ place_left plan (parts_of card.old) sensors.now place.old) }
 {
-    if plan_period::accepted_period(plan) == 0 {
-        return CardOutcome {
-            answer: Answer::InvalidPlan,
-            card,
-        };
-    }
+    plan_period::recovery_period(plan)?;
     let wanted = plan.sensors;
     let outputs = plan.actuators;
     if (sensors.len() != wanted) | (place.len() != outputs) {
-        return CardOutcome {
-            answer: Answer::WrongLength,
-            card,
-        };
+        return Err(Refusal::WrongLength);
     }
-    let mut bins = card.bins;
-    let next = card_step::step::tick(plan, state(card), &mut bins, sensors, place);
-    outcome(Answer::Done, next, bins)
+    let before = state(card);
+    let next = card_step::step::tick(&plan, before, &mut card.bins, sensors, place);
+    set_state(card, next);
+    Ok(())
 }

@@ -1,8 +1,9 @@
 // The bins of a card. Each step is lent them, and requires that they have the bytes of so many bins.
-ghost use Rattle.std.specs.Prelude.{◌≡◌, ◌||◌, ◌+◌, ◌*◌, ◌<◌, ◌≤◌, eqb, length, replicate};
+ghost use Rattle.std.specs.Prelude.{◌≡◌, true, ◌||◌, ◌+◌, ◌*◌, ◌<◌, ◌≤◌, eqb, length, replicate};
 ghost use Rattle.array.specs.Index.{all_below};
 ghost use Rattle.array.specs.Code.{placed};
-ghost use Rattle.plan.specs.Limits.{most_nodes, most_frames, most_cells};
+ghost use Rattle.plan.specs.Limits.{most_nodes, most_cells};
+ghost use Rattle.plan.specs.Accepted.{accepted};
 ghost use Rattle.memory.specs.Size.{cell_at, bin_bytes};
 ghost use Rattle.memory.specs.Node.{voted as voted_of};
 ghost use Rattle.card_bins.specs.Bins.{slot_size, slot_at, is_filled, with_bin, emptied, last_empty, heard_in, mailbox_in};
@@ -36,12 +37,10 @@ fn others_filled(bins: &[u8], nodes: usize, cells: usize, number: usize) -> bool
     requires { (nodes ≤ most_nodes) × (cells ≤ most_cells) × (nodes * slot_size cells ≤ length bins.now) }
     ensures { result ≡ all_below (λ i. eqb i number || is_filled cells bins.now i) nodes }
 {
-    let mut j: usize = 0;
-    while j < nodes {
+    for j in 0..nodes {
         if !((j == number) | is_filled(bins, cells, j)) {
             return false;
         }
-        j += 1;
     }
     true
 }
@@ -57,19 +56,6 @@ pub fn is_last_empty(bins: &[u8], nodes: usize, cells: usize, number: usize) -> 
     others_filled(bins, nodes, cells, number)
 }
 
-// Bytes copied to a place that is as long.
-pub fn copy_bytes(from: &[u8], to: &mut [u8])
-    requires { length from.now ≡ length to.old }
-    ensures { to.new ≡ from.now }
-{
-    let n = from.len();
-    let mut k: usize = 0;
-    while k < n {
-        to[k] = from[k];
-        k += 1;
-    }
-}
-
 pub fn fill_bin(bins: &mut [u8], cells: usize, number: usize, message: &[u8])
     requires { (number < most_nodes) × (cells ≤ most_cells) × (slot_at cells number + slot_size cells ≤ length bins.old) × (length message.now ≡ cell_at cells) }
     ensures { bins.new ≡ with_bin cells number message.now bins.old }
@@ -78,28 +64,15 @@ pub fn fill_bin(bins: &mut [u8], cells: usize, number: usize, message: &[u8])
     let first = at + MARK;
     let end = first + memory::step::message_size(cells);
     bins[at] = FILLED;
-    copy_bytes(message, &mut bins[first..end]);
+    bins[first..end].copy_from_slice(message);
 }
 
 pub fn empty(bins: &mut [u8], nodes: usize, cells: usize)
     requires { (nodes ≤ most_nodes) × (cells ≤ most_cells) × (nodes * slot_size cells ≤ length bins.old) }
     ensures { bins.new ≡ emptied cells nodes bins.old }
 {
-    let mut j: usize = 0;
-    while j < nodes {
+    for j in 0..nodes {
         bins[slot_at(j, cells)] = 0;
-        j += 1;
-    }
-}
-
-fn clear(to: &mut [u8])
-    ensures { to.new ≡ replicate (length to.old) 0 }
-{
-    let n = to.len();
-    let mut k: usize = 0;
-    while k < n {
-        to[k] = 0;
-        k += 1;
     }
 }
 
@@ -114,9 +87,9 @@ fn put_heard(bins: &[u8], cells: usize, j: usize, out: &mut [u8])
     if is_filled(bins, cells, j) {
         let first = slot_at(j, cells) + MARK;
         let end = first + size;
-        copy_bytes(&bins[first..end], &mut out[at..to]);
+        out[at..to].copy_from_slice(&bins[first..end]);
     } else {
-        clear(&mut out[at..to]);
+        out[at..to].fill(0);
     }
 }
 
@@ -125,31 +98,22 @@ fn mailbox(bins: &[u8], nodes: usize, cells: usize, out: &mut [u8])
     requires { (nodes ≤ most_nodes) × (cells ≤ most_cells) × (nodes * slot_size cells ≤ length bins.now) × (nodes * bin_bytes cells ≤ length out.old) }
     ensures { out.new ≡ placed out.old 0 (mailbox_in cells nodes bins.now) }
 {
-    let mut j: usize = 0;
-    while j < nodes {
+    for j in 0..nodes {
         put_heard(bins, cells, j, out);
-        j += 1;
     }
 }
 
 // The most bytes of a mailbox.
 const MAILBOX: usize = Plan::NODES * (SLOT - MARK);
 
-// A vote on the bins, by what is lent of a plan.
-pub fn vote_with(
-    voted: &[bool; Plan::VOTES],
-    nodes: usize,
-    frames: usize,
-    cells: usize,
-    memory: Memory,
-    bins: &[u8],
-) -> Memory
-    requires { (nodes ≤ most_nodes) × (0 < frames) × (frames ≤ most_frames) × (cells ≤ most_cells) × (nodes * slot_size cells ≤ length bins.now) }
-    ensures { (p : Plan) → p.voted ≡ voted.now → p.nodes ≡ nodes → p.frames ≡ frames → p.cells ≡ cells → result ≡ voted_of p memory (mailbox_in cells nodes bins.now) }
+// A vote on the bins.
+pub fn vote(plan: &Plan, memory: &Memory, bins: &[u8]) -> Memory
+    requires { (accepted plan.now ≡ true) × (plan.now.nodes * slot_size plan.now.cells ≤ length bins.now) }
+    ensures { result ≡ voted_of plan.now memory.now (mailbox_in plan.now.cells plan.now.nodes bins.now) }
 {
     let mut all = [0u8; MAILBOX];
-    mailbox(bins, nodes, cells, &mut all);
-    let size = memory::step::bin_at(nodes, cells);
-    let vote = mailbox::step::vote_with(voted, nodes, frames, cells, memory, &all[0..size]);
+    mailbox(bins, plan.nodes, plan.cells, &mut all);
+    let size = memory::step::bin_at(plan.nodes, plan.cells);
+    let vote = mailbox::step::vote(plan, memory, &all[0..size]);
     vote.memory
 }

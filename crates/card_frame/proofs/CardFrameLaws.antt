@@ -1,13 +1,13 @@
 -- Four ticks of a card that are not refused are its node's frame; four times as many are so many frames, on the press's card too.
+use Rattle.std.specs.Prelude.{Some, Ok}
 use mathlib.Core.Path.{◌≡◌, refl, sym, ap, ap₂, subst, ◌∙◌}
 use mathlib.Core.Bool.{true, false}
 use mathlib.Core.List.{List, [], ◌∷◌, ◌++◌, append_assoc}
-use mathlib.Core.Option.{some}
 use Prim.Native.Nat.{ℕ, ◌*◌, ◌≤◌, ◌<◌}
 use native.Mathlib.Omega.{arith}
 use lib.ListN.{length, replicate, length-replicate}
 use Rattle.array.specs.Index.{fill}
-use Rattle.answer.specs.Tests.{passed, if_passed}
+use Rattle.answer.proofs.TestLaws.{given-later, given-none}
 use Rattle.plan.specs.declared.Plan.{Plan}
 use Rattle.plan.specs.Accepted.{accepted}
 use Rattle.plan.proofs.AcceptedLaws.{shape-of-accepted}
@@ -24,7 +24,7 @@ use Rattle.card_bins.proofs.BinsLaws.{zeros-empty, emptied-empty}
 use Rattle.card_step.specs.CardParts.{CardParts, BinsFit, in_compute, in_broadcast, in_vote, in_sync, powered_state}
 use Rattle.card_step.specs.Calls.{CardCall, card_after}
 use Rattle.card.specs.declared.Card.{Card}
-use Rattle.card.specs.Card.{most_bins, parts_of, card_of, card_power_on, card_outcome}
+use Rattle.card.specs.Card.{most_bins, parts_of, card_of, powered_card, card_power_on, card_left}
 use Rattle.card.proofs.CallLaws.{most-bins}
 use Rattle.card_frame.specs.CardFrame.{
   card_finally,
@@ -261,22 +261,26 @@ unfolding parts_of card_of
 parts-back k = refl
 
 module _ (p : Plan) where
-  outcome-parts : (k : Card) (c : CardCall) → parts_of (card_outcome p k c).card ≡ card_after p (parts_of k) c
-  unfolding card_outcome
-  outcome-parts k c = parts-back (card_after p (parts_of k) c)
+  left-parts : (k : Card) (c : CardCall) → parts_of (card_left p k c) ≡ card_after p (parts_of k) c
+  unfolding card_left
+  left-parts k c = parts-back (card_after p (parts_of k) c)
 
   called-parts : (cs : List CardCall) (k : Card) → parts_of (cards_called p k cs) ≡ card_finally p (parts_of k) cs
   unfolding cards_called card_finally
   called-parts [] k = refl
-  called-parts (c ∷ cs) k = called-parts cs (card_outcome p k c).card ∙ ap (λ (x : CardParts). card_finally p x cs) (outcome-parts k c)
+  called-parts (c ∷ cs) k = called-parts cs (card_left p k c) ∙ ap (λ (x : CardParts). card_finally p x cs) (left-parts k c)
 
   module _ (a : accepted p ≡ true) where
     press-fit : (bins : List ℕ) → length bins ≡ most_bins → p.nodes * slot_size p.cells ≤ length bins
     press-fit bins e = rw e (most-bins (shape-of-accepted p a).nodes-high (shape-of-accepted p a).cells-le)
 
-    powered-is : (card_power_on p).card ≡ card_of (record { state = powered_state p; bins = replicate most_bins 0 })
-    unfolding card_power_on if_passed plan_tests passed
-    powered-is = rw a
+    powered-given : card_power_on p ≡ Ok (powered_card p)
+    unfolding card_power_on plan_tests
+    powered-given = given-later _ [] (powered_card p) a ∙ given-none (powered_card p)
+
+    powered-is : powered_card p ≡ card_of (record { state = powered_state p; bins = replicate most_bins 0 })
+    unfolding powered_card
+    powered-is = refl
 
     powered-start : AtCompute p (record { state = powered_state p; bins = replicate most_bins 0 })
     unfolding powered_state phase_of
@@ -297,6 +301,7 @@ press-cards p a k e = (press-fit p a k.bins e, record { by_parts = λ cs. called
 
 pub press-card-on : PressCardOn
 press-card-on p a = (
+  powered-given p a,
   subst (AtCompute p) (sym (ap parts_of (powered-is p a) ∙ parts-back (record { state = powered_state p; bins = replicate most_bins 0 }))) (powered-start p a),
   ap (λ (x : Card). x.memory) (powered-is p a) ∙ powered-memory p a,
 )
@@ -310,7 +315,7 @@ module _ (p : Plan) (sys : System) (mask : ℕ) (faults : List ℕ) (i : ℕ) (g
   unfolding frame_on memory_after computed_by
   good-memory same = rw (good, same)
 
-  good-puts : (a : ℕ) → some (setpoint p (memory_after p sys f.first.sensors mask faults i) a) ≡ put_out p sys f.first.sensors mask faults a i
+  good-puts : (a : ℕ) → Some (setpoint p (memory_after p sys f.first.sensors mask faults i) a) ≡ put_out p sys f.first.sensors mask faults a i
   unfolding put_out
   good-puts a = rw good
 
@@ -318,5 +323,5 @@ pub card-of-good-node : CardOfGoodNode
 card-of-good-node p sys mask faults i good f same =
     let m : frame_on p (memory_of sys i) f ≡ memory_after p sys f.first.sensors mask faults i = good-memory p sys mask faults i good f same in (
       m,
-      λ a. ap (λ (x : Memory). some (setpoint p x a)) m ∙ good-puts p sys mask faults i good f a,
+      λ a. ap (λ (x : Memory). Some (setpoint p x a)) m ∙ good-puts p sys mask faults i good f a,
     )

@@ -1,8 +1,8 @@
 -- Laws of calls of which none is a tick that is not refused: what they leave as it was, and what they deliver.
+use Rattle.std.specs.Prelude.{Option, Some}
 use mathlib.Core.Path.{◌≡◌, refl, sym, ap, ap₂, ◌∙◌}
 use mathlib.Core.Bool.{Bool, true, false, not, cond}
 use mathlib.Core.List.{List, [], ◌∷◌, ◌++◌}
-use mathlib.Core.Option.{Option, some}
 use Prim.Native.Nat.{ℕ, ◌+◌, ◌%◌, ◌≤◌, ◌<◌}
 use native.Mathlib.Omega.{arith}
 use lib.Dec.{eqb, ltb}
@@ -102,7 +102,7 @@ module _ (p : Plan) (k : CardParts) where
       unfolding takes_bin
       own-taken = rw (broadcast, lt-ltb j p.nodes below)
 
-      own-heard : (number : ℕ) (message : List ℕ) → length message ≡ message_size p → number ≡ j → HeardAs (some message) (delivered p number k message)
+      own-heard : (number : ℕ) (message : List ℕ) → length message ≡ message_size p → number ≡ j → HeardAs (Some message) (delivered p number k message)
       unfolding delivered bin_holding
       own-heard number message whole same = rw (same, own-taken) (filled-heard p.cells j message k.bins (slot-fits j below) whole)
 

@@ -1,8 +1,8 @@
 -- Laws of calls up to a tick that is not refused: each phase left, and the places of the ticks.
+use Rattle.std.specs.Prelude.{None}
 use mathlib.Core.Path.{◌≡◌, refl, sym, ap, ap₂, ◌∙◌}
 use mathlib.Core.Bool.{false}
 use mathlib.Core.List.{List, [], ◌∷◌, ◌++◌, append_assoc}
-use mathlib.Core.Option.{none}
 use Prim.Native.Nat.{ℕ, ◌+◌, ◌%◌, ◌<◌}
 use native.Mathlib.Omega.{arith}
 use lib.ListN.{length}
@@ -141,7 +141,7 @@ module _ (p : Plan) where
 
     -- leaving broadcast: what was delivered to the empty bins
     module _ (e : phase_of k.state ≡ in_broadcast) where
-      holding-none : bin_holding p none ≡ not_sent p.cells
+      holding-none : bin_holding p None ≡ not_sent p.cells
       unfolding bin_holding
       holding-none = refl
 
@@ -156,10 +156,10 @@ module _ (p : Plan) where
           mailbox_in p.cells p.nodes after.bins ≡ mailbox_delivered p t.earlier
       unfolding mailbox_in mailbox_delivered
       stretch-mailbox empty =
-          joined_same (heard_in p.cells after.bins) (λ j. bin_holding p (last_delivered p j t.earlier none)) p.nodes
-          (λ j l. ap (λ (b : List ℕ). heard_in p.cells b j) broadcast-bins ∙ still-heard p j l t.earlier k none fit e t.no-tick (nothing j l))
+          joined_same (heard_in p.cells after.bins) (λ j. bin_holding p (last_delivered p j t.earlier None)) p.nodes
+          (λ j l. ap (λ (b : List ℕ). heard_in p.cells b j) broadcast-bins ∙ still-heard p j l t.earlier k None fit e t.no-tick (nothing j l))
         where
-          nothing : (j : ℕ) → j < p.nodes → heard_in p.cells k.bins j ≡ bin_holding p none
+          nothing : (j : ℕ) → j < p.nodes → heard_in p.cells k.bins j ≡ bin_holding p None
           nothing j l = heard-empty p.cells k.bins j (empty j l) ∙ sym holding-none
 
     -- "entering compute empties all"

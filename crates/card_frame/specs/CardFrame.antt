@@ -1,7 +1,6 @@
 -- Request 2026-07: "Four ticks not refused from compute with all bins empty, every call with one plan and the card that the one before left, must give that node's frame for
 -- the sensors of the first and the bins delivered, for every mask and clear the host wrote."
-use Rattle.std.specs.Prelude.{◌≡◌, Bool, true, false, not, cond, ◌&&◌, List, [], ◌∷◌, ◌++◌, ℕ, ◌+◌, ◌*◌, ◌<◌, eqb, length}
-use Rattle.std.proofs.Math.Option.{Option, none, some}
+use Rattle.std.specs.Prelude.{◌≡◌, Bool, true, false, not, cond, ◌&&◌, List, [], ◌∷◌, ◌++◌, ℕ, ◌+◌, ◌*◌, ◌<◌, eqb, length, Option, None, Some, Ok}
 use Rattle.array.specs.Index.{fill, joined}
 use Rattle.answer.specs.Tests.{passed}
 use Rattle.plan.specs.declared.Plan.{Plan}
@@ -15,7 +14,7 @@ use Rattle.card_page.specs.Page.{phase_of}
 use Rattle.card_bins.specs.Bins.{is_filled}
 use Rattle.card_step.specs.CardParts.{CardParts, BinsFit, in_compute}
 use Rattle.card.specs.declared.Card.{Card}
-use Rattle.card.specs.Card.{most_bins, parts_of, card_power_on, card_outcome}
+use Rattle.card.specs.Card.{most_bins, parts_of, powered_card, card_power_on, card_left}
 use Rattle.card_step.specs.Calls.{CardCall, reading, writing, delivery, ticking, card_tests, card_after, place_left}
 
 -- ---- a list of calls on one card, all with one plan, each on the card that the one before left
@@ -61,7 +60,7 @@ module _ (p : Plan) where
   unfoldable pub delivered_by : ℕ → CardCall → Option (List ℕ) → Option (List ℕ)
   delivered_by j (reading at) held = held
   delivered_by j (writing at value) held = held
-  delivered_by j (delivery number message) held = cond (eqb number j && passed (card_tests p (delivery number message))) (some message) held
+  delivered_by j (delivery number message) held = cond (eqb number j && passed (card_tests p (delivery number message))) (Some message) held
   delivered_by j (ticking sensors place) held = held
 
   unfoldable pub last_delivered : ℕ → List CardCall → Option (List ℕ) → Option (List ℕ)
@@ -70,12 +69,12 @@ module _ (p : Plan) where
 
   -- "A bin still empty counts as not sent."
   unfoldable pub bin_holding : Option (List ℕ) → List ℕ
-  bin_holding none = not_sent p.cells
-  bin_holding (some message) = bin_of message
+  bin_holding None = not_sent p.cells
+  bin_holding (Some message) = bin_of message
 
   -- the mailbox of the bins that these calls deliver
   unfoldable pub mailbox_delivered : List CardCall → List ℕ
-  mailbox_delivered cs = joined (λ j. bin_holding (last_delivered j cs none)) p.nodes
+  mailbox_delivered cs = joined (λ j. bin_holding (last_delivered j cs None)) p.nodes
 
   -- calls up to a tick that is not refused, the only one of them
   pub record Stretch : Type 0 where
@@ -179,7 +178,7 @@ EveryFrames =
 
 unfoldable pub cards_called : Plan → Card → List CardCall → Card
 cards_called p k [] = k
-cards_called p k (c ∷ cs) = cards_called p (card_outcome p k c).card cs
+cards_called p k (c ∷ cs) = cards_called p (card_left p k c) cs
 
 -- what the calls leave is what the parts become
 pub record PressCard (p : Plan) (k : Card) : Type 0 where
@@ -192,7 +191,7 @@ PressCards = (p : Plan) → accepted p ≡ true → (k : Card) → length k.bins
 
 -- at power-on it is in compute, with all bins empty, and has the node's memory
 abbrev pub PressCardOn : Type 0
-PressCardOn = (p : Plan) → accepted p ≡ true → AtCompute p (parts_of (card_power_on p).card) × ((card_power_on p).card.memory ≡ powered_on p)
+PressCardOn = (p : Plan) → accepted p ≡ true → (card_power_on p ≡ Ok (powered_card p)) × AtCompute p (parts_of (powered_card p)) × ((powered_card p).memory ≡ powered_on p)
 
 -- ---- a good node of a system: with the bins that it hears there, the card has the node's memory after the frame, and gives what the node puts out
 
@@ -203,4 +202,4 @@ CardOfGoodNode =
     (f : FourTicks p) →
     mailbox_delivered p f.second.earlier ≡ mailbox_of p sys f.first.sensors mask faults i →
     (frame_on p (memory_of sys i) f ≡ memory_after p sys f.first.sensors mask faults i)
-    × ((a : ℕ) → some (setpoint p (frame_on p (memory_of sys i) f) a) ≡ put_out p sys f.first.sensors mask faults a i)
+    × ((a : ℕ) → Some (setpoint p (frame_on p (memory_of sys i) f) a) ≡ put_out p sys f.first.sensors mask faults a i)

@@ -4,6 +4,8 @@ use Rattle.array.specs.Bit.{bit}
 use Rattle.array.specs.Word.{bytes}
 use Rattle.memory.specs.Size.{counter_size}
 use Rattle.card_page.specs.declared.CardState.{CardState}
+use Rattle.card_page.specs.declared.Phase.{Phase}
+use Rattle.card_page.specs.declared.Phase.TheVariants.{Compute, Broadcast, Vote, Sync}
 
 abbrev pub page_size : ℕ
 page_size = 16
@@ -24,8 +26,15 @@ two_bits b0 b1 = cond b0 1 0 + cond b1 2 0
 unfoldable pub named_bits : ℕ → ℕ
 named_bits b = two_bits (bit b 0) (bit b 1)
 
+-- "Byte 2 is the phase (0 compute, 1 broadcast, 2 vote, 3 sync)."
+abbrev pub phase_number : Phase → ℕ
+phase_number Compute = 0
+phase_number Broadcast = 1
+phase_number Vote = 2
+phase_number Sync = 3
+
 module _ (s : CardState) where
-  -- "the phase (0 compute, 1 broadcast, 2 vote, 3 sync)"
+  -- "A phase handed in counts modulo 4"
   unfoldable pub phase_of : ℕ
   phase_of = s.phase % 4
 

@@ -1,9 +1,9 @@
 // Reading and writing a card's page. Which places may be read or written is for the calls to say.
 ghost use Rattle.std.specs.Prelude.{◌≡◌};
 ghost use Rattle.array.specs.Bit.{bit};
-ghost use Rattle.card_page.specs.Page.{two_bits, named_bits, phase_of, timer_due, bins_full, flag_byte, page_byte, with_flags, as_counts, written_at};
+ghost use Rattle.card_page.specs.Page.{two_bits, named_bits, phase_number, phase_of, timer_due, bins_full, flag_byte, page_byte, with_flags, as_counts, written_at};
 
-use super::CardState;
+use super::{CardState, Phase};
 
 // The bytes of the page, and those that a host may write.
 pub const PAGE: usize = 16;
@@ -14,10 +14,10 @@ pub const CLEAR: usize = 5;
 
 // ---- what counts
 
-pub fn phase(state: CardState) -> u8
-    ensures { result ≡ phase_of state }
+pub fn phase(state: CardState) -> Phase
+    ensures { phase_number result ≡ phase_of state }
 {
-    state.phase % 4
+    Phase::of(state.phase)
 }
 
 fn named(b: u8) -> u8
@@ -84,7 +84,7 @@ pub fn read(state: CardState, at: usize) -> u8
         return (counter % 256) as u8;
     }
     if at == 2 {
-        return phase(state);
+        return phase(state).number();
     }
     if at == 3 {
         return flag_byte(state);
@@ -103,7 +103,7 @@ pub fn with_flags(state: CardState, due: bool, full: bool) -> CardState
     let memory = state.memory;
     CardState {
         memory,
-        phase: phase(state),
+        phase: phase(state).number(),
         flags: two(due, full),
         mask: named(state.mask),
     }
@@ -122,7 +122,7 @@ pub fn write(state: CardState, at: usize, value: u8) -> CardState
         let memory = state.memory;
         return CardState {
             memory,
-            phase: phase(state),
+            phase: phase(state).number(),
             flags: named(state.flags),
             mask: named(value),
         };

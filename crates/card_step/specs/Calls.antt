@@ -1,7 +1,7 @@
 -- Request 2026-07: the calls on a card that is powered on, refused or not, by its parts. "No refusal changes the card."
-use Rattle.std.specs.Prelude.{◌&&◌, ◌||◌, List, [], ◌∷◌, ℕ, eqb, ltb, length}
-use Rattle.answer.specs.declared.Answer.{Answer}
-use Rattle.answer.specs.Tests.{Test, test, answered, if_passed}
+use Rattle.std.specs.Prelude.{◌&&◌, ◌||◌, List, [], ◌∷◌, ℕ, eqb, ltb, length, Result}
+use Rattle.answer.specs.declared.Refusal.{Refusal}
+use Rattle.answer.specs.Tests.{Test, test, given, if_passed}
 use Rattle.plan.specs.declared.Plan.{Plan}
 use Rattle.plan.specs.Accepted.{accepted}
 use Rattle.memory.specs.Size.{message_size}
@@ -25,8 +25,8 @@ module _ (p : Plan) where
   card_tests (delivery number message) = test 7 (accepted p) ∷ test 8 (eqb (length message) (message_size p)) ∷ []
   card_tests (ticking sensors place) = test 7 (accepted p) ∷ test 8 (eqb (length sensors) p.sensors && eqb (length place) p.actuators) ∷ []
 
-  unfoldable pub card_answer : CardCall → Answer
-  card_answer c = answered (card_tests c)
+  unfoldable pub card_answer : CardCall → Result (Unit {0}) Refusal
+  card_answer c = given (card_tests c) tt
 
   -- the card after one that is not refused; a read leaves it as it is handed in
   unfoldable pub card_done : CardParts → CardCall → CardParts
@@ -38,9 +38,9 @@ module _ (p : Plan) where
   unfoldable pub card_after : CardParts → CardCall → CardParts
   card_after k c = if_passed (card_tests c) (card_done k c) k
 
-  -- the byte that a read gives, 0 beside a refusal
-  unfoldable pub byte_read : CardParts → ℕ → ℕ
-  byte_read k at = if_passed (card_tests (reading at)) (page_byte k.state at) 0
+  -- the byte that a read gives, or its refusal
+  unfoldable pub byte_read : CardParts → ℕ → Result ℕ Refusal
+  byte_read k at = given (card_tests (reading at)) (page_byte k.state at)
 
   -- a tick's place afterwards
   unfoldable pub place_left : CardParts → List ℕ → List ℕ → List ℕ

@@ -5,7 +5,8 @@ use Rattle.plan.specs.declared.Plan.{Plan}
 use Rattle.memory.specs.declared.Memory.{Memory}
 use Rattle.memory.specs.Node.{powered_on, computed, voted, setpoint}
 use Rattle.card_page.specs.declared.CardState.{CardState}
-use Rattle.card_page.specs.Page.{two_bits, named_bits, phase_of, timer_due, bins_full, with_flags, as_counts}
+use Rattle.card_page.specs.declared.Phase.TheVariants.{Compute, Broadcast, Vote, Sync}
+use Rattle.card_page.specs.Page.{two_bits, named_bits, phase_number, phase_of, timer_due, bins_full, with_flags, as_counts}
 use Rattle.card_bins.specs.Bins.{slot_size, with_bin, emptied, last_empty, mailbox_in}
 
 pub record CardParts : Type 0 where
@@ -16,18 +17,18 @@ pub record CardParts : Type 0 where
 abbrev pub BinsFit : Plan → CardParts → Type 0
 BinsFit p k = p.nodes * slot_size p.cells ≤ length k.bins
 
--- "Byte 2 is the phase (0 compute, 1 broadcast, 2 vote, 3 sync)."
+-- the numbers of the phases
 abbrev pub in_compute : ℕ
-in_compute = 0
+in_compute = phase_number Compute
 
 abbrev pub in_broadcast : ℕ
-in_broadcast = 1
+in_broadcast = phase_number Broadcast
 
 abbrev pub in_vote : ℕ
-in_vote = 2
+in_vote = phase_number Vote
 
 abbrev pub in_sync : ℕ
-in_sync = 3
+in_sync = phase_number Sync
 
 -- "At power-on phase, flags and mask are 0"
 unfoldable pub powered_state : Plan → CardState

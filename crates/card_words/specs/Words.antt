@@ -1,8 +1,8 @@
 -- A card as 64-bit words and bytes, for callers that hand over nothing else. This layout is ours: the words of its memory, then phase, flags and mask; the bytes are its bins.
 -- Any words and bytes are some card.
-use Rattle.std.specs.Prelude.{List, ℕ, ◌+◌, ◌%◌, ◌^◌, get_or, set}
+use Rattle.std.specs.Prelude.{List, ℕ, ◌+◌, ◌%◌, ◌^◌, get_or, set, Result}
 use Rattle.array.specs.Index.{from}
-use Rattle.answer.specs.declared.Answer.{Answer}
+use Rattle.answer.specs.declared.Refusal.{Refusal}
 use Rattle.system_words.specs.Words.{if_done, memory_count, memory_at, with_memory}
 use Rattle.card.specs.declared.Card.{Card}
 use Rattle.card.specs.Card.{most_bins}
@@ -36,9 +36,9 @@ card_of_words ws bytes =
 unfoldable pub with_card : Card → List ℕ → List ℕ
 with_card k ws = set (set (set (with_memory k.memory 0 ws) phase_at k.phase) flags_at k.flags) mask_word_at k.mask
 
--- a card's words and bytes after a call that gives this answer and this card
-unfoldable pub card_given : Answer → Card → List ℕ → List ℕ
-card_given a k ws = if_done a (with_card k ws) ws
+-- a card's words and bytes after a call that gives this, and this card
+unfoldable pub card_given : {A : Type 0} → Result A Refusal → Card → List ℕ → List ℕ
+card_given given k ws = if_done given (with_card k ws) ws
 
-unfoldable pub bins_given : Answer → Card → List ℕ → List ℕ
-bins_given a k bytes = if_done a k.bins bytes
+unfoldable pub bins_given : {A : Type 0} → Result A Refusal → Card → List ℕ → List ℕ
+bins_given given k bytes = if_done given k.bins bytes

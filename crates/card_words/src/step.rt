@@ -2,9 +2,9 @@
 ghost use Rattle.std.specs.Prelude.{◌≡◌, [], get_or, length};
 ghost use Rattle.array.specs.Index.{from};
 ghost use Rattle.card.specs.Card.{most_bins};
-ghost use Rattle.card_words.specs.Words.{byte_of, card_of_words, card_given, bins_given};
+ghost use Rattle.card_words.specs.Words.{byte_of, card_of_words, with_card};
 
-use answer::Answer;
+use array::step::entry_or;
 use card::Card;
 
 // Where phase, flags and mask stand; the words of a card.
@@ -19,16 +19,7 @@ pub const CARD: usize = PHASE + 3;
 fn low_byte(words: &[u64], at: usize) -> u8
     ensures { result ≡ byte_of words.now at }
 {
-    (system_words::step::word(words, at) % 256) as u8
-}
-
-fn byte(bytes: &[u8], i: usize) -> u8
-    ensures { result ≡ get_or bytes.now i 0 }
-{
-    if i < bytes.len() {
-        return bytes[i];
-    }
-    0
+    (entry_or(words, at, 0) % 256) as u8
 }
 
 // The bytes of all bins, copied where there are as many.
@@ -38,13 +29,11 @@ fn copy_bins(bytes: &[u8], bins: &mut [u8])
 {
     let end = Card::BINS;
     if end <= bytes.len() {
-        card_bins::step::copy_bytes(&bytes[0..end], bins);
+        bins.copy_from_slice(&bytes[0..end]);
         return;
     }
-    let mut k: usize = 0;
-    while k < Card::BINS {
-        bins[k] = byte(bytes, k);
-        k += 1;
+    for k in 0..Card::BINS {
+        bins[k] = entry_or(bytes, k, 0);
     }
 }
 
@@ -78,25 +67,12 @@ pub fn bare(words: &[u64]) -> Card
     }
 }
 
-// ---- after a call: beside a refusal every word and byte stays
-
-pub fn give_card(answer: Answer, card: Card, words: &mut [u64])
-    ensures { words.new ≡ card_given answer card words.old }
+// The words of a card; all others stay.
+pub fn put_card(card: Card, words: &mut [u64])
+    ensures { words.new ≡ with_card card words.old }
 {
-    if answer.number() == 0 {
-        let memory = card.memory;
-        system_words::step::put_memory(memory, 0, words);
-        system_words::step::put_word(words, PHASE, card.phase as u64);
-        system_words::step::put_word(words, FLAGS, card.flags as u64);
-        system_words::step::put_word(words, MASK, card.mask as u64);
-    }
-}
-
-pub fn give_bins(answer: Answer, card: Card, bytes: &mut [u8; Card::BINS])
-    ensures { bytes.new ≡ bins_given answer card bytes.old }
-{
-    if answer.number() == 0 {
-        let bins = card.bins;
-        *bytes = bins;
-    }
+    system_words::step::put_memory(card.memory, 0, words);
+    system_words::step::put_word(words, PHASE, card.phase as u64);
+    system_words::step::put_word(words, FLAGS, card.flags as u64);
+    system_words::step::put_word(words, MASK, card.mask as u64);
 }

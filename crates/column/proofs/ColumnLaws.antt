@@ -1,6 +1,6 @@
 -- The round trip of a column, over its width: what is written is read back, and what is accepted is what is written.
+use Rattle.std.specs.Prelude.{Some}
 use Rattle.std.proofs.Common.{◌≡◌, ℕ, zero, suc, ◌+◌, ◌-◌, ◌*◌, ◌/◌, ◌%◌, ◌^◌, ◌<◌, ◌≤◌, Bool, true, false, cond, eqb, List, [], ◌∷◌, ◌++◌, length, get_or, take, sym, refl, ap, ◌∙◌, subst, ap₂, ⊎_elim, append_assoc, append-nil, le_refl, lt_of_lt_of_le, add-zero, add-suc, eq-zero-or-pos, pow-suc, add-one, arith, lit<, length-append, take-suc, ne_eqb, eqb-true}
-use mathlib.Core.Option.{some}
 use native.Mathlib.Nat.{pow-le-pow_right}
 use lib.Seq.{take-length}
 use Rattle.numeral.specs.Numeral.{decimal, numeral_of}
@@ -50,7 +50,7 @@ blanks-split (x ∷ s) = go (eqb x 32) refl (blanks-split s)
     go true q h = (suc h.0, ap₂ {C = List ℕ} (λ y l. y ∷ l) (eqb-true x 32 q) h.1 ∙ blanks-more h.0 (drop_blanks s))
     go false q h = (0, refl)
 
-shows-of-number : (s : List ℕ) (v : ℕ) → number_shown s ≡ some v → Shows s v
+shows-of-number : (s : List ℕ) (v : ℕ) → number_shown s ≡ Some v → Shows s v
 unfolding number_shown
 shows-of-number s v e =
     let b = blanks-split s in
@@ -62,12 +62,12 @@ unfolding drop_blanks
 digits-start [] h = refl
 digits-start (x ∷ d) h = rw (ne_eqb x 32 (λ e. omega (arith, h.each 0 h.full)))
 
-number-of-shows : (s : List ℕ) (v : ℕ) → Shows s v → v < 2 ^ 64 → number_shown s ≡ some v
+number-of-shows : (s : List ℕ) (v : ℕ) → Shows s v → v < 2 ^ 64 → number_shown s ≡ Some v
 unfolding number_shown
 number-of-shows s v h l =
     let d = h.digits in
     let e : drop_blanks s ≡ d = ap drop_blanks h.whole ∙ blanks-before h.blanks d ∙ digits-start d h.form in
-    ap numeral_of e ∙ sym (numeral-read d (well_formed-of-digits d h.form) (rw h.number l)) ∙ ap some h.number
+    ap numeral_of e ∙ sym (numeral-read d (well_formed-of-digits d h.form) (rw h.number l)) ∙ ap Some h.number
 
 -- ---- what is accepted is what is written
 
@@ -102,7 +102,7 @@ column-of-digits d b m e h =
 shows-length : (s : List ℕ) (v : ℕ) (h : Shows s v) → length s ≡ h.blanks + length h.digits
 shows-length s v h = ap length h.whole ∙ length-append (front h.blanks 0) h.digits ∙ rw (front_length h.blanks 0)
 
-pub column-of-number : (s : List ℕ) (v : ℕ) → number_shown s ≡ some v → s ≡ column (length s) v
+pub column-of-number : (s : List ℕ) (v : ℕ) → number_shown s ≡ Some v → s ≡ column (length s) v
 column-of-number s v e =
     let h = shows-of-number s v e in
     let d = h.digits in
@@ -111,12 +111,12 @@ column-of-number s v e =
 
 -- ---- what is known of a number that was read
 
-pub number_bound : (s : List ℕ) (v : ℕ) → number_shown s ≡ some v → v < 2 ^ 64
+pub number_bound : (s : List ℕ) (v : ℕ) → number_shown s ≡ Some v → v < 2 ^ 64
 unfolding number_shown
 number_bound s v e = (numeral-parts (drop_blanks s) v e).2
 
 -- it has room in the column
-pub number_fits : (s : List ℕ) (v : ℕ) → number_shown s ≡ some v → v < 10 ^ length s
+pub number_fits : (s : List ℕ) (v : ℕ) → number_shown s ≡ Some v → v < 10 ^ length s
 number_fits s v e =
     let h = shows-of-number s v e in
     let d = h.digits in
@@ -124,7 +124,7 @@ number_fits s v e =
     lt_of_lt_of_le (subst (λ (n : ℕ). n < 10 ^ length d) h.number l) (pow-le-pow_right (lit< tt) (omega (arith, shows-length s v h)))
 
 -- no column is empty
-pub number-full : (s : List ℕ) (v : ℕ) → number_shown s ≡ some v → 0 < length s
+pub number-full : (s : List ℕ) (v : ℕ) → number_shown s ≡ Some v → 0 < length s
 number-full s v e = let h = shows-of-number s v e in omega (arith, shows-length s v h, h.form.full)
 
 -- ---- what is written is read back
@@ -161,7 +161,7 @@ shows-digit (suc w) q x v h l e =
     (λ p. shows-next (front (suc w) q) q x v (rw (mark-digit q p) (shows-digit w (q / 10) (q % 10) q (omega (arith, pow-suc 10 w)) (omega arith) (omega arith))) p l e)
     (eq-zero-or-pos q)
 
-pub number-of-column : (w v : ℕ) → 0 < w → v < 10 ^ w → v < 2 ^ 64 → number_shown (column w v) ≡ some v
+pub number-of-column : (w v : ℕ) → 0 < w → v < 10 ^ w → v < 2 ^ 64 → number_shown (column w v) ≡ Some v
 unfolding column
 number-of-column zero v p h l = absurd (omega arith)
 number-of-column (suc w) v p h l =

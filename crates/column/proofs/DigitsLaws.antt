@@ -1,6 +1,6 @@
 -- Laws of digits with nothing before them: their form as facts, and one digit more.
+use Rattle.std.specs.Prelude.{None, Some}
 use Rattle.std.proofs.Common.{◌≡◌, ℕ, zero, suc, ◌+◌, ◌-◌, ◌*◌, ◌/◌, ◌%◌, ◌^◌, ◌<◌, ◌≤◌, Bool, true, false, cond, not, ◌&&◌, ◌||◌, eqb, ltb, leb, List, [], ◌∷◌, ◌++◌, length, get_or, sym, refl, ap, ◌∙◌, not-suc-le-zero, pow-suc, zero-add, add-one, arith, lit<, length-append, ltb-true, eq-eqb, eqb-true, le-leb, leb-true}
-use mathlib.Core.Option.{none, some}
 use lib.ListN.{get_or-append}
 use lib.Seq.{get_or-append_seam, get_or_at}
 use borrow.Author.Tests.{eqb-false}
@@ -47,11 +47,11 @@ module _ (d : List ℕ) where
       (all_below-all (λ i. is_digit (get_or d i 0)) (length d) (λ k l. and_both (le-leb 48 (get_or d k 0) (h.each k l).0) (le-leb (get_or d k 0) 57 (h.each k l).1)))
 
 -- what a numeral that is read says of its digits
-pub numeral-parts : (d : List ℕ) (v : ℕ) → numeral_of d ≡ some v → Digits d × (decimal d (length d) ≡ v) × (v < 2 ^ 64)
+pub numeral-parts : (d : List ℕ) (v : ℕ) → numeral_of d ≡ Some v → Digits d × (decimal d (length d) ≡ v) × (v < 2 ^ 64)
 unfolding numeral_of
 numeral-parts d v e = go (is_numeral d && ltb (decimal d (length d)) (2 ^ 64)) refl e
   where
-    go : (t : Bool) → (is_numeral d && ltb (decimal d (length d)) (2 ^ 64)) ≡ t → cond t (some (decimal d (length d))) none ≡ some v
+    go : (t : Bool) → (is_numeral d && ltb (decimal d (length d)) (2 ^ 64)) ≡ t → cond t (Some (decimal d (length d))) None ≡ Some v
         → Digits d × (decimal d (length d) ≡ v) × (v < 2 ^ 64)
     go true t q =
         let x : decimal d (length d) ≡ v = cc in

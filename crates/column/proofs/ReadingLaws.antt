@@ -1,7 +1,7 @@
 -- Reading a column: where the blanks end, which part of the line it is, how many digits it has.
+use Rattle.std.specs.Prelude.{None, Some}
 use Rattle.std.proofs.Common.{◌≡◌, ℕ, ◌+◌, ◌-◌, ◌^◌, ◌<◌, ◌≤◌, cond, not, eqb, leb, ◌⊎◌, List, [], ◌∷◌, length, get_or, take, drop, sym, ap, ◌∙◌, inl, inr, le_trans, zero-add, add-one, arith, length-drop, drop_of_length-le, length-take, length-take-le, take_all, take-add, drop_at, lt-ltb, eq-eqb, ne_eqb, leb-true}
 use mathlib.Core.Bool.{or-true}
-use mathlib.Core.Option.{none, some}
 use native.Mathlib.Nat.{min-le_left}
 use lib.Seq.{take-length, slice, slice-cons}
 use Rattle.array.specs.Index.{all_below}
@@ -62,7 +62,7 @@ digits-few s f t h =
     omega (arith, blanks-length (slice f t s), length-drop f (take t s), length-take t s, min-le_left t (length s))
 
 -- what a single one shows
-pub numeral-one : (d : List ℕ) → length d ≡ 1 → cond (is_digit (get_or d 0 0)) (some (get_or d 0 0 - 48)) none ≡ numeral_of d
+pub numeral-one : (d : List ℕ) → length d ≡ 1 → cond (is_digit (get_or d 0 0)) (Some (get_or d 0 0 - 48)) None ≡ numeral_of d
 unfolding numeral_of is_numeral decimal all_below
 numeral-one d n =
     let b = get_or d 0 0 in

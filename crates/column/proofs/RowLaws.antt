@@ -1,12 +1,9 @@
 -- The round trip of a row, over the widths of its columns.
+use Rattle.std.specs.Prelude.{Option, None, Some}
 use Rattle.std.proofs.Common.{◌≡◌, ℕ, zero, suc, ◌+◌, ◌^◌, ◌<◌, ◌≤◌, Bool, true, false, cond, ◌&&◌, eqb, List, [], ◌∷◌, ◌++◌, length, get_or, take, drop, sym, refl, ap, ◌∙◌, append_assoc, arith, lit<, length-append, take-append-drop, drop_of_length-le, length-take-le, drop-cons, take_at, drop_at, eq-eqb, eqb-true}
-use mathlib.Core.Option.{Option, none, some}
 use lib.Seq.{slice, length-slice, drop-append-le, take-append-add, get_or_at}
 use Rattle.array.proofs.TestLaws.{and_left, and_right}
-use Rattle.numeral.specs.declared.Number.{Number}
-use Rattle.numeral.specs.declared.Number.TheVariants.{Value}
 use Rattle.column.specs.Column.{column, number_shown}
-use Rattle.numeral.specs.Answers.{shown}
 use Rattle.column.specs.Row.{row, Room, and_then, numbers_from, numbers_shown}
 use Rattle.column.proofs.ColumnLaws.{column-length, column-of-number, number-of-column, number_bound, number_fits, number-full}
 
@@ -24,22 +21,18 @@ row-length (w ∷ ws) (v ∷ vs) = rw (length-append, column-length w v, row-len
 
 -- ---- a row that is read, column by column
 
--- what the code was told of a column
-pub value_read : {r : Number} {v : ℕ} {o : Option ℕ} → shown r ≡ o → r ≡ Value v → some v ≡ o
-value_read e t = sym (ap shown t) ∙ e
-
 -- what a column more says
 record Both (x : Option ℕ) (r : Option (List ℕ)) (vs : List ℕ) : Type 0 where
   pub head : ℕ
   pub tail : List ℕ
-  pub first : x ≡ some head
-  pub rest : r ≡ some tail
+  pub first : x ≡ Some head
+  pub rest : r ≡ Some tail
   pub whole : vs ≡ head ∷ tail
 
-both-of-some : (x : Option ℕ) (r : Option (List ℕ)) (vs : List ℕ) → and_then x r ≡ some vs → Both x r vs
-both-of-some none r vs e = absurd (let z : ◌≡◌ {A = ℕ} 0 1 = cc in omega arith)
-both-of-some (some v) none vs e = absurd (let z : ◌≡◌ {A = ℕ} 0 1 = cc in omega arith)
-both-of-some (some v) (some us) vs e = record { head = v; tail = us; first = refl; rest = refl; whole = cc }
+both-of-some : (x : Option ℕ) (r : Option (List ℕ)) (vs : List ℕ) → and_then x r ≡ Some vs → Both x r vs
+both-of-some None r vs e = absurd (let z : ◌≡◌ {A = ℕ} 0 1 = cc in omega arith)
+both-of-some (Some v) None vs e = absurd (let z : ◌≡◌ {A = ℕ} 0 1 = cc in omega arith)
+both-of-some (Some v) (Some us) vs e = record { head = v; tail = us; first = refl; rest = refl; whole = cc }
 
 -- what the end says
 record End (at : ℕ) (s vs : List ℕ) : Type 0 where
@@ -47,11 +40,11 @@ record End (at : ℕ) (s vs : List ℕ) : Type 0 where
   pub feed : get_or s at 0 ≡ 10
   pub none : vs ≡ []
 
-end-of-some : (at : ℕ) (s vs : List ℕ) → numbers_from at [] s ≡ some vs → End at s vs
+end-of-some : (at : ℕ) (s vs : List ℕ) → numbers_from at [] s ≡ Some vs → End at s vs
 unfolding numbers_from
 end-of-some at s vs e = go (eqb (length s) (at + 1) && eqb (get_or s at 0) 10) refl e
   where
-    go : (t : Bool) → (eqb (length s) (at + 1) && eqb (get_or s at 0) 10) ≡ t → cond {A = Option (List ℕ)} t (some []) none ≡ some vs → End at s vs
+    go : (t : Bool) → (eqb (length s) (at + 1) && eqb (get_or s at 0) 10) ≡ t → cond {A = Option (List ℕ)} t (Some []) None ≡ Some vs → End at s vs
     go true q e =
         record {
           size = eqb-true (length s) (at + 1) (and_left _ _ q);
@@ -60,17 +53,17 @@ end-of-some at s vs e = go (eqb (length s) (at + 1) && eqb (get_or s at 0) 10) r
         }
     go false q e = absurd (let z : ◌≡◌ {A = ℕ} 0 1 = cc in omega arith)
 
-more-of-some : (at w : ℕ) (ws s vs : List ℕ) → numbers_from at (w ∷ ws) s ≡ some vs → Both (number_shown (slice at (at + w) s)) (numbers_from (at + w) ws s) vs
+more-of-some : (at w : ℕ) (ws s vs : List ℕ) → numbers_from at (w ∷ ws) s ≡ Some vs → Both (number_shown (slice at (at + w) s)) (numbers_from (at + w) ws s) vs
 unfolding numbers_from
 more-of-some at w ws s vs e = both-of-some (number_shown (slice at (at + w) s)) (numbers_from (at + w) ws s) vs e
 
-from-length : (at : ℕ) (ws s vs : List ℕ) → numbers_from at ws s ≡ some vs → length s ≡ at + total ws + 1
+from-length : (at : ℕ) (ws s vs : List ℕ) → numbers_from at ws s ≡ Some vs → length s ≡ at + total ws + 1
 unfolding total
 from-length at [] s vs e = omega (arith, end-of-some at s vs e)
 from-length at (w ∷ ws) s vs e = let h = more-of-some at w ws s vs e in omega (arith, from-length (at + w) ws s h.tail h.rest)
 
 -- the column of the width w at a place
-module _ (at w : ℕ) (ws s vs : List ℕ) (e : numbers_from at (w ∷ ws) s ≡ some vs) where
+module _ (at w : ℕ) (ws s vs : List ℕ) (e : numbers_from at (w ∷ ws) s ≡ Some vs) where
   from-slice : length (slice at (at + w) s) ≡ w
   unfolding total
   from-slice = length-slice at (at + w) s (omega (arith, from-length at (w ∷ ws) s vs e)) ∙ omega arith
@@ -81,7 +74,7 @@ slice-rest : (s : List ℕ) (f t : ℕ) → f ≤ t → t ≤ length s → drop 
 slice-rest s f t l k =
     sym (ap (drop f) (take-append-drop t s)) ∙ drop-append-le f (take t s) (drop t s) (rw (length-take-le t s k) l)
 
-from_row : (at : ℕ) (ws s vs : List ℕ) → numbers_from at ws s ≡ some vs → drop at s ≡ row ws vs
+from_row : (at : ℕ) (ws s vs : List ℕ) → numbers_from at ws s ≡ Some vs → drop at s ≡ row ws vs
 unfolding row
 from_row at [] s vs e =
     let h = end-of-some at s vs e in
@@ -92,23 +85,23 @@ from_row at (w ∷ ws) s vs e =
     slice-rest s at (at + w) (omega arith) (omega (arith, from-length (at + w) ws s h.tail h.rest))
     ∙ rw (c, from_row (at + w) ws s h.tail h.rest) (ap (row (w ∷ ws)) (sym h.whole))
 
-pub row-of-numbers : (ws s vs : List ℕ) → numbers_shown ws s ≡ some vs → s ≡ row ws vs
+pub row-of-numbers : (ws s vs : List ℕ) → numbers_shown ws s ≡ Some vs → s ≡ row ws vs
 unfolding numbers_shown
 row-of-numbers ws s vs e = from_row 0 ws s vs e
 
-pub numbers-length : (ws s vs : List ℕ) → numbers_shown ws s ≡ some vs → length s ≡ total ws + 1
+pub numbers-length : (ws s vs : List ℕ) → numbers_shown ws s ≡ Some vs → length s ≡ total ws + 1
 numbers-length ws s vs e = ap length (row-of-numbers ws s vs e) ∙ row-length ws vs
 
 -- ---- what is known of numbers that were read
 
-from-room : (at : ℕ) (ws s vs : List ℕ) → numbers_from at ws s ≡ some vs → Room ws vs
+from-room : (at : ℕ) (ws s vs : List ℕ) → numbers_from at ws s ≡ Some vs → Room ws vs
 from-room at [] s vs e = rw (end-of-some at s vs e).none tt
 from-room at (w ∷ ws) s vs e =
     let h = more-of-some at w ws s vs e in
     let f : length (slice at (at + w) s) ≡ w = from-slice at w ws s vs e in
     rw h.whole (rw f at (number-full (slice at (at + w) s) h.head h.first), rw f at (number_fits (slice at (at + w) s) h.head h.first), number_bound (slice at (at + w) s) h.head h.first, from-room (at + w) ws s h.tail h.rest)
 
-pub room-of-numbers : (ws s vs : List ℕ) → numbers_shown ws s ≡ some vs → Room ws vs
+pub room-of-numbers : (ws s vs : List ℕ) → numbers_shown ws s ≡ Some vs → Room ws vs
 unfolding numbers_shown
 room-of-numbers ws s vs e = from-room 0 ws s vs e
 
@@ -131,7 +124,7 @@ room_bound (w ∷ ws) (v ∷ vs) r (suc i) = room_bound ws vs r.3 i
 slice-middle : (p c r : List ℕ) (at w : ℕ) → length p ≡ at → length c ≡ w → slice at (at + w) (p ++ (c ++ r)) ≡ c
 slice-middle p c r at w l k = rw (← l, take-append-add p (c ++ r) w, take_at c r w k) (drop_at p c (length p) refl)
 
-from-written : (p ws vs : List ℕ) (at : ℕ) → length p ≡ at → Room ws vs → numbers_from at ws (p ++ row ws vs) ≡ some vs
+from-written : (p ws vs : List ℕ) (at : ℕ) → length p ≡ at → Room ws vs → numbers_from at ws (p ++ row ws vs) ≡ Some vs
 unfolding row numbers_from
 from-written p [] [] at l r =
     rw (eq-eqb (length (p ++ (10 ∷ []))) (at + 1) (length-append p (10 ∷ []) ∙ rw l), get_or_at p 10 [] 0 at l)
@@ -140,9 +133,9 @@ from-written p (w ∷ ws) [] at l r = absurd r
 from-written p (w ∷ ws) (v ∷ vs) at l r =
     let c = column w v in
     let k : length (p ++ c) ≡ at + w = length-append p c ∙ rw (l, column-length w v) in
-    let q : numbers_from (at + w) ws (p ++ (c ++ row ws vs)) ≡ some vs = rw (← append_assoc p c (row ws vs)) (from-written (p ++ c) ws vs (at + w) k r.3) in
+    let q : numbers_from (at + w) ws (p ++ (c ++ row ws vs)) ≡ Some vs = rw (← append_assoc p c (row ws vs)) (from-written (p ++ c) ws vs (at + w) k r.3) in
     rw (slice-middle p c (row ws vs) at w l (column-length w v), number-of-column w v r.0 r.1 r.2, q)
 
-pub numbers-of-row : (ws vs : List ℕ) → Room ws vs → numbers_shown ws (row ws vs) ≡ some vs
+pub numbers-of-row : (ws vs : List ℕ) → Room ws vs → numbers_shown ws (row ws vs) ≡ Some vs
 unfolding numbers_shown
 numbers-of-row ws vs r = from-written [] ws vs 0 refl r

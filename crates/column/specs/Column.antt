@@ -1,8 +1,7 @@
 -- Document 01, 'The plan': decimal numbers "right-justified in columns". "Only blanks stand before the digits. No leading zeros;
 -- zero is `0`; no column is blank. The number of a column is read from the digits of the column, the blanks before them dropped.
 -- The largest number is 2^64 − 1."
-use Rattle.std.specs.Prelude.{ℕ, zero, suc, ◌+◌, ◌/◌, ◌%◌, cond, List, [], ◌∷◌, ◌++◌, ◌==◌}
-use Rattle.std.proofs.Math.Option.{Option}
+use Rattle.std.specs.Prelude.{ℕ, zero, suc, ◌+◌, ◌/◌, ◌%◌, cond, List, [], ◌∷◌, ◌++◌, ◌==◌, Option}
 use Rattle.numeral.specs.Numeral.{numeral_of}
 
 -- ---- reading

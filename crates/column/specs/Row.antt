@@ -1,6 +1,5 @@
 -- A row: numbers in columns of given widths, then a line feed (byte 10). Plan lines, run lines and listing lines are rows.
-use Rattle.std.specs.Prelude.{ℕ, ◌+◌, ◌^◌, ◌<◌, cond, ◌&&◌, List, [], ◌∷◌, ◌++◌, length, ◌==◌, slice_index}
-use Rattle.std.proofs.Math.Option.{Option, none, some}
+use Rattle.std.specs.Prelude.{ℕ, ◌+◌, ◌^◌, ◌<◌, cond, ◌&&◌, List, [], ◌∷◌, ◌++◌, length, ◌==◌, slice_index, Option, None, Some}
 use Rattle.std.proofs.Math.Seq.{slice}
 use Rattle.column.specs.Column.{column, number_shown}
 
@@ -23,13 +22,13 @@ Room (w ∷ ws) (v ∷ vs) = (0 < w) × (v < 10 ^ w) × (v < 2 ^ 64) × Room ws 
 
 -- one number more, if both were read
 abbrev pub and_then : Option ℕ → Option (List ℕ) → Option (List ℕ)
-and_then none r = none
-and_then (some v) none = none
-and_then (some v) (some vs) = some (v ∷ vs)
+and_then None r = None
+and_then (Some v) None = None
+and_then (Some v) (Some vs) = Some (v ∷ vs)
 
 -- the numbers that the columns of the widths ws show from a place on, if a line feed ends them and the line
 unfoldable pub numbers_from : ℕ → List ℕ → List ℕ → Option (List ℕ)
-numbers_from at [] s = cond (length s == at + 1 && slice_index s at == 10) (some []) none
+numbers_from at [] s = cond (length s == at + 1 && slice_index s at == 10) (Some []) None
 numbers_from at (w ∷ ws) s = and_then (number_shown (slice at (at + w) s)) (numbers_from (at + w) ws s)
 
 -- the numbers of a row of columns of the widths ws

@@ -4,9 +4,6 @@
 ghost use Rattle.std.specs.Prelude.{◌≡◌};
 ghost use Rattle.std.proofs.Math.Seq.{slice};
 ghost use Rattle.column.specs.Column.{drop_blanks, number_shown};
-ghost use Rattle.numeral.specs.Answers.{shown};
-
-use numeral::Number;
 
 pub mod step;
 
@@ -21,6 +18,7 @@ pub fn digits<'a>(line: &'a [u8], from: usize, to: usize) -> &'a [u8]
     if end <= from {
         return &line[end..end];
     }
+    // In steps of four, and where they end is what is given: `chunks_exact` would lose the place.
     let mut i = from;
     while 4 <= end - i {
         let w = word::step::read_le4(line, i);
@@ -30,18 +28,17 @@ pub fn digits<'a>(line: &'a [u8], from: usize, to: usize) -> &'a [u8]
         }
         i += 4;
     }
-    while i < end {
-        if line[i] != 32 {
-            return &line[i..end];
+    for j in i..end {
+        if line[j] != b' ' {
+            return &line[j..end];
         }
-        i += 1;
     }
     &line[end..end]
 }
 
 // The number that the column shows. A narrow column has few digits, which are read inline.
-pub fn read(line: &[u8], from: usize, to: usize) -> Number
-    ensures { shown result ≡ number_shown (slice from to line.now) }
+pub fn read(line: &[u8], from: usize, to: usize) -> Option<u64>
+    ensures { result ≡ number_shown (slice from to line.now) }
 {
     let d = digits(line, from, to);
     if step::is_wide(from, to) {

@@ -3,9 +3,6 @@ ghost use Rattle.std.specs.Prelude.{◌≡◌, ◌+◌, ◌-◌, ◌<◌, ◌≤
 ghost use Rattle.std.proofs.Math.Seq.{slice};
 ghost use Rattle.word.specs.Word.{low_run};
 ghost use Rattle.column.specs.Column.{number_shown};
-ghost use Rattle.numeral.specs.Answers.{shown};
-
-use numeral::Number;
 
 // Four blanks.
 pub const BLANKS: u32 = 0x20202020;
@@ -26,8 +23,8 @@ pub fn is_wide(from: usize, to: usize) -> bool
 }
 
 // What `read` gives, without its test; most wide columns of a plan show one digit.
-pub fn read_wide(line: &[u8], from: usize, to: usize) -> Number
-    ensures { shown result ≡ number_shown (slice from to line.now) }
+pub fn read_wide(line: &[u8], from: usize, to: usize) -> Option<u64>
+    ensures { result ≡ number_shown (slice from to line.now) }
 {
     let d = super::digits(line, from, to);
     if d.len() == 1 {

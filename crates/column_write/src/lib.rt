@@ -17,6 +17,7 @@ fn glyph(q: u64) -> u8
 pub fn write(out: &mut [u8], v: u64)
     ensures { out.new ≡ column (length out.old) v }
 {
+    // Backwards in steps of eight, until nothing is left of the number: of what `rchunks_exact_mut` or `iter_mut().rev()` write a proof knows nothing.
     let mut i = out.len();
     let mut rest = v;
     while 8 <= i {

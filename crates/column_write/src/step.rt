@@ -42,11 +42,7 @@ pub fn put_blanks(out: &mut [u8], n: usize)
     requires { n ≤ length out.old }
     ensures { out.new ≡ replicate n 32 ++ drop n out.old }
 {
-    let mut i = n;
-    while 0 < i {
-        i -= 1;
-        out[i] = 32;
-    }
+    out[..n].fill(b' ');
 }
 
 // Fills the column of a width at a place.

@@ -4,59 +4,33 @@
 ghost use Rattle.std.specs.Prelude.{◌≡◌};
 ghost use Rattle.system.specs.CountCalls.{working_answer, equal_answer};
 
-use answer::Answer;
+use answer::Refusal;
 use memory::Memory;
 use plan::Plan;
-use system::{Counted, System};
+use rows::RowWords;
+use system::System;
 
-pub fn working(plan: Plan, system: System, mask: u64) -> Counted
+pub fn working(plan: Plan, system: System, mask: u64) -> Result<usize, Refusal>
     ensures { result ≡ working_answer plan system mask }
 {
-    let period = plan_period::accepted_period(plan);
-    if period == 0 {
-        return Counted {
-            answer: Answer::InvalidPlan,
-            count: 0,
-        };
-    }
+    let period = plan_period::recovery_period(plan)?;
     let n = plan.nodes;
     if !(counts::step::mask_ok(n, mask) & counts::step::counts_ok(&system.good, n, period)) {
-        return Counted {
-            answer: Answer::MaskOrCount,
-            count: 0,
-        };
+        return Err(Refusal::MaskOrCount);
     }
     let count = counts::step::working(&system.good, n, period, mask);
-    Counted {
-        answer: Answer::Done,
-        count,
-    }
+    Ok(count)
 }
 
-pub fn equal(plan: Plan, system: System, memory: Memory) -> Counted
+pub fn equal(plan: Plan, system: System, memory: Memory) -> Result<usize, Refusal>
     ensures { result ≡ equal_answer plan system memory }
 {
-    let period = plan_period::accepted_period(plan);
-    if period == 0 {
-        return Counted {
-            answer: Answer::InvalidPlan,
-            count: 0,
-        };
-    }
+    let period = plan_period::recovery_period(plan)?;
     let nodes = plan.nodes;
     if !counts::step::counts_ok(&system.good, nodes, period) {
-        return Counted {
-            answer: Answer::MaskOrCount,
-            count: 0,
-        };
+        return Err(Refusal::MaskOrCount);
     }
-    let mut counters = [0u16; rows::step::ROWS];
-    let mut cells = [0u64; rows::step::WORDS];
-    rows::step::put_memory(memory, 0, &mut counters, &mut cells);
-    rows::step::unpack(system, &mut counters, &mut cells);
-    let count = rows::step::equal(&counters, &cells, nodes, plan.cells);
-    Counted {
-        answer: Answer::Done,
-        count,
-    }
+    let rows = RowWords::beside(system, memory);
+    let count = rows.equal(nodes, plan.cells);
+    Ok(count)
 }

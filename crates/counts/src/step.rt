@@ -34,12 +34,10 @@ pub fn counts_ok(good: &[u16; System::NODES], nodes: usize, period: usize) -> bo
     requires { nodes ≤ most_nodes }
     ensures { result ≡ all_below (λ i. leb (get_or good.now i 0) period) nodes }
 {
-    let mut i: usize = 0;
-    while i < nodes {
+    for i in 0..nodes {
         if above(good[i], period) {
             return false;
         }
-        i += 1;
     }
     true
 }
@@ -62,10 +60,8 @@ pub fn counts(good: &mut [u16; System::NODES], nodes: usize, mask: u64, period: 
     requires { (nodes ≤ most_nodes) × (period < 65536) }
     ensures { good.new ≡ fill (good_after period mask good.old) nodes good.old }
 {
-    let mut i: usize = 0;
-    while i < nodes {
+    for i in 0..nodes {
         good[i] = count_after(is_bad(mask, i), good[i], period);
-        i += 1;
     }
 }
 
@@ -81,12 +77,10 @@ pub fn working(good: &[u16; System::NODES], nodes: usize, period: usize, mask: u
     ensures { result ≡ how_many (is_working period mask good.now) nodes }
 {
     let mut count: usize = 0;
-    let mut i: usize = 0;
-    while i < nodes {
+    for i in 0..nodes {
         if !is_bad(mask, i) & is_full(good[i], period) {
             count += 1;
         }
-        i += 1;
     }
     count
 }

@@ -69,12 +69,6 @@ parts_all s mask len h j l b = omega (arith, part_room s j s.nodes l)
 
 -- ---- one part filled
 
-pub fill-all : (x : ℕ) (l : List ℕ) → fill (λ i. x) (length l) l ≡ replicate (length l) x
-fill-all x l =
-    let n : length (fill (λ i. x) (length l) l) ≡ length l = fill-length (λ i. x) (length l) l in
-    ext_get_or 0 (fill (λ i. x) (length l) l) (replicate (length l) x) (n ∙ sym (length-replicate (length l) x))
-    (λ i h. fill-in (λ i. x) (length l) l i 0 (omega arith) (omega arith) ∙ sym (get_or-replicate (length l) i x 0 (omega arith)))
-
 module _ (w : ℕ) (faults part : List ℕ) (j : ℕ) {a k : ℕ} (at : a ≡ j * w) (size : k ≡ w) (fits : j * w + w ≤ length faults) (long : length part ≡ w) where
   room : a + length part ≤ length faults
   room = omega arith

@@ -61,17 +61,6 @@ pub fn setpoint_at(s: Sizes, i: usize, a: usize) -> usize
         + memory::step::PATTERN * a
 }
 
-fn fill_part(part: &mut [u8], x: u8)
-    ensures { part.new ≡ replicate (length part.old) x }
-{
-    let n = part.len();
-    let mut i: usize = 0;
-    while i < n {
-        part[i] = x;
-        i += 1;
-    }
-}
-
 // The parts of the bad nodes hold `fill` then; `held` says what each part holds, so that a part that holds it already is not touched.
 pub fn hold(s: Sizes, mask: u64, fill: u64, held: &mut [u8; System::NODES], faults: &mut [u8])
     requires { Small s × (fill ≤ 255) × (length held.old ≡ most_nodes) × (length faults.old ≡ faults_size s) × Held s held.old faults.old }
@@ -83,13 +72,11 @@ pub fn hold(s: Sizes, mask: u64, fill: u64, held: &mut [u8; System::NODES], faul
     let x = fill as u8;
     let nodes = s.nodes;
     let size = part_size(s);
-    let mut j: usize = 0;
-    while j < nodes {
+    for j in 0..nodes {
         if counts::step::is_bad(mask, j) & (held[j] != x) {
             let at = j * size;
-            fill_part(&mut faults[at..at + size], x);
+            faults[at..at + size].fill(x);
             held[j] = x;
         }
-        j += 1;
     }
 }

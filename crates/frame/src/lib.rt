@@ -5,13 +5,14 @@ ghost use Rattle.std.specs.Prelude.{◌≡◌, true, length};
 ghost use Rattle.plan.specs.Accepted.{accepted};
 ghost use Rattle.plan.specs.Known.{period as period_of};
 ghost use Rattle.plan.specs.Sizes.{sizes_of};
-ghost use Rattle.system.specs.Fault.{faults_size};
 ghost use Rattle.system.specs.Frame.{system_after, place_after, frame_agreement};
-ghost use Rattle.system.specs.FrameCall.{lengths_ok, frame_answer, frame_place};
+ghost use Rattle.system.specs.FrameCall.{lengths_ok, frame_answer, frame_system, frame_place};
 
-use answer::Answer;
+use answer::Refusal;
+use faults::Faults;
 use plan::Plan;
-use system::{Framed, System};
+use rows::RowWords;
+use system::System;
 
 // 8: sensors, fault bytes, place.
 fn lengths_ok(plan: Plan, period: usize, sensors: usize, faults: usize, place: usize) -> bool
@@ -23,95 +24,52 @@ fn lengths_ok(plan: Plan, period: usize, sensors: usize, faults: usize, place: u
         & (place == plan.actuators)
 }
 
-// A record after a frame, and the frame's agreement.
-#[derive(Clone, Copy)]
-struct Stepped {
-    system: System,
-    agreement: usize,
-}
-
-// The record on rows, a frame of them, and the record again.
+// The record on rows, a frame of them, and the record again; what is given is the frame's agreement.
 fn on_rows(
     plan: Plan,
-    period: usize,
-    system: System,
+    system: &mut System,
     sensors: &[u64],
-    mask: u64,
-    faults: &[u8],
+    faults: &Faults,
     place: &mut [u64],
-) -> Stepped
-    requires { (accepted plan ≡ true) × (period ≡ period_of plan) × (length sensors.now ≡ plan.sensors) × (length faults.now ≡ faults_size (sizes_of plan)) × (length place.old ≡ plan.actuators) }
-    ensures { (result.system ≡ system_after plan system sensors.now mask faults.now) × (result.agreement ≡ frame_agreement plan system sensors.now mask faults.now) × (place.new ≡ place_after plan system sensors.now mask faults.now place.old) }
+) -> usize
+    requires { (accepted plan ≡ true) × (faults.now.sizes ≡ sizes_of plan) × (length sensors.now ≡ plan.sensors) × (length place.old ≡ plan.actuators) }
+    ensures { (result ≡ frame_agreement plan system.old sensors.now faults.now.mask faults.now.bytes.now) × (system.new ≡ system_after plan system.old sensors.now faults.now.mask faults.now.bytes.now) × (place.new ≡ place_after plan system.old sensors.now faults.now.mask faults.now.bytes.now place.old) }
 {
-    let s = plan::sizes_with(plan, period);
-    let mut good = system.good;
-    let mut counters = [0u16; rows::step::ROWS];
-    let mut cells = [0u64; rows::step::WORDS];
-    rows::step::unpack(system, &mut counters, &mut cells);
+    let mut rows = RowWords::of(*system);
     let cams = cam::table();
-    let mut seen = rows::step::seen_words(system.seen);
-    let agreement = row_frame::step::frame(
-        plan,
-        s,
-        1,
-        sensors,
-        &cams,
-        mask,
-        faults,
-        &mut counters,
-        &mut cells,
-        &mut good,
-        &mut seen,
-    );
+    let agreement = row_frame::step::frame(plan, 1, sensors, &cams, faults, &mut rows);
     let actuators = plan.actuators;
-    array::step::copy(&seen[0..actuators], place);
-    let after = rows::step::pack(&counters, &cells, good, seen);
-    Stepped {
-        system: after,
-        agreement,
-    }
+    place.copy_from_slice(&rows.seen[0..actuators]);
+    *system = rows.system();
+    agreement
 }
 
+// What is given is the frame's agreement.
 pub fn frame(
     plan: Plan,
-    system: System,
+    system: &mut System,
     sensors: &[u64],
     mask: u64,
     faults: &[u8],
     place: &mut [u64],
-) -> Framed
-    ensures { (result ≡ frame_answer plan system sensors.now mask faults.now place.old) × (place.new ≡ frame_place plan system sensors.now mask faults.now place.old) }
+) -> Result<usize, Refusal>
+    ensures { (result ≡ frame_answer plan system.old sensors.now mask faults.now place.old) × (system.new ≡ frame_system plan system.old sensors.now mask faults.now place.old) × (place.new ≡ frame_place plan system.old sensors.now mask faults.now place.old) }
 {
-    let period = plan_period::accepted_period(plan);
-    if period == 0 {
-        return Framed {
-            answer: Answer::InvalidPlan,
-            system,
-            agreement: 0,
-        };
-    }
+    let period = plan_period::recovery_period(plan)?;
     let nodes = plan.nodes;
     if !(counts::step::mask_ok(nodes, mask)
         & counts::step::counts_ok(&system.good, nodes, period))
     {
-        return Framed {
-            answer: Answer::MaskOrCount,
-            system,
-            agreement: 0,
-        };
+        return Err(Refusal::MaskOrCount);
     }
     if !lengths_ok(plan, period, sensors.len(), faults.len(), place.len()) {
-        return Framed {
-            answer: Answer::WrongLength,
-            system,
-            agreement: 0,
-        };
+        return Err(Refusal::WrongLength);
     }
-    let stepped = on_rows(plan, period, system, sensors, mask, faults, place);
-    let next = stepped.system;
-    Framed {
-        answer: Answer::Done,
-        system: next,
-        agreement: stepped.agreement,
-    }
+    let told = Faults {
+        sizes: plan::sizes_with(plan, period),
+        mask,
+        bytes: faults,
+    };
+    let agreement = on_rows(plan, system, sensors, &told, place);
+    Ok(agreement)
 }

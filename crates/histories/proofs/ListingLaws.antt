@@ -1,9 +1,8 @@
 -- The lines of the histories, from their masks.
-use mathlib.Core.Path.{◌≡◌, refl, sym, ap, ap₂, ◌∙◌}
+use Rattle.std.specs.Prelude.{Ok, Err}
+use mathlib.Core.Path.{◌≡◌, sym, ap, ap₂, ◌∙◌}
 use mathlib.Core.Bool.{true, false}
 use mathlib.Core.List.{List, [], ◌∷◌, ◌++◌, append_assoc, flatten}
-use mathlib.Core.Option
-use mathlib.Core.Option.{Option, none, some}
 use Prim.Native.Nat.{ℕ, ◌+◌, ◌-◌, ◌*◌, ◌/◌, ◌≤◌}
 use native.Mathlib.Omega.{arith}
 use native.Mathlib.Nat.{add-zero}
@@ -18,23 +17,16 @@ use Rattle.column.specs.Column.{column}
 use Rattle.column.specs.Row.{row}
 use Rattle.column.proofs.ColumnLaws.{column-length}
 use Rattle.column.proofs.RowLaws.{total, row-length}
-use Rattle.answer.specs.declared.Answer.{Answer}
-use Rattle.answer.specs.declared.Answer.TheVariants.{Done, NodesOrLength}
-use Rattle.answer.specs.Refusal.{number_of}
-use Rattle.answer.specs.Tests.{unless_refused}
+use Rattle.answer.specs.declared.Refusal.{Refusal}
+use Rattle.answer.specs.declared.Refusal.TheVariants.{NodesOrLength}
 use Rattle.plan.specs.declared.Plan.{Plan}
 use Rattle.plan.specs.Known.{period}
-use Rattle.plan.specs.Accepted.{accepted}
-use Rattle.plan_period.specs.Answers.{accepted_period}
-use Rattle.plan_period.proofs.AnswerLaws.{accepted-period}
-use Rattle.plan_grammar.specs.Meant.{zero_plan, plan_of}
-use Rattle.plan_grammar.specs.Refused.{text_refusal}
-use Rattle.plan_grammar.proofs.RefusedLaws.{refusal-numbered}
+use Rattle.plan_grammar.specs.Meant.{plan_of}
 use Rattle.plan_text.specs.declared.PlanRead.{PlanRead}
-use Rattle.plan_text.specs.Answers.{read_answer}
-use Rattle.plan_text.specs.Code.{read_period}
-use Rattle.plan_text.proofs.TextLaws.{read-plan}
+use Rattle.plan_text.specs.Code.{plan_found}
+use Rattle.plan_text.proofs.GivenLaws.{found-given, none-found}
 use Rattle.run_line.specs.Line.{refusal_line, refusal_size}
+use Rattle.run_line.specs.Listing.{lines_or}
 use Rattle.run_line.proofs.WritingLaws.{placed-whole, refusal-length}
 use Rattle.history_masks.specs.Histories.{histories}
 use Rattle.history_masks.specs.Limits.{limits_ok}
@@ -159,48 +151,32 @@ module _ (p : Plan) where
         (ap (λ (ms : List ℕ). joined (history_line_at ms) (length listed)) (front-placed p history_frames e masks)
         ∙ lines_are (drop (length listed * history_frames) masks))
 
--- ---- the text of a plan
-
-module _ (text : List ℕ) where
-  pub text-refused : (number_of (read_answer text).answer ≡ 0 → ⊥) → refusal_line (read_answer text).answer ≡ histories_listing text
-  unfolding read_answer histories_listing unless_refused
-  text-refused = cases (text_refusal text)
-    where
-      cases : (o : Option Answer) → (number_of (Option.get_or o Done) ≡ 0 → ⊥) → refusal_line (Option.get_or o Done) ≡ unless_refused o (plan_listing (plan_of text)) (refusal_line (Option.get_or o Done))
-      cases none n = absurd (n refl)
-      cases (some a) n = refl
-
-  pub text-read : number_of (read_answer text).answer ≡ 0 → (accepted (read_answer text).plan ≡ true) × (plan_listing (read_answer text).plan ≡ histories_listing text)
-  unfolding read_answer histories_listing unless_refused
-  text-read = cases (text_refusal text) refl
-    where
-      cases :
-          (o : Option Answer) →
-          text_refusal text ≡ o →
-          number_of (Option.get_or o Done) ≡ 0 →
-          (accepted (unless_refused o (plan_of text) zero_plan) ≡ true)
-          × (plan_listing (unless_refused o (plan_of text) zero_plan) ≡ unless_refused o (plan_listing (plan_of text)) (refusal_line (Option.get_or o Done)))
-      cases none q = λ n. (read-plan text q, refl)
-      cases (some a) q = λ n. absurd (refusal-numbered text a q n)
-
 -- ---- the front of the buffer
 
-pub refusal-taken : (s : List ℕ) (a : Answer) {xs : List ℕ} → refusal_size ≤ length s → xs ≡ placed s 0 (refusal_line a) → (refusal_size ≤ length xs) × (take refusal_size xs ≡ refusal_line a)
+pub refusal-taken : (s : List ℕ) (a : Refusal) {xs : List ℕ} → refusal_size ≤ length s → xs ≡ placed s 0 (refusal_line a) → (refusal_size ≤ length xs) × (take refusal_size xs ≡ refusal_line a)
 refusal-taken s a l f = front-taken s (refusal_line a) refusal_size (refusal-length a) l f
 
 -- ---- the ways out of the program
 
-module _ (text : List ℕ) (x : PlanRead) (e : x ≡ read_answer text) {n : ℕ} (f : n ≡ number_of x.answer) (s : List ℕ) where
-  pub print-refused : (n ≡ 0 → ⊥) → most_histories * history_line_size ≤ length s → {xs : List ℕ} → xs ≡ placed s 0 (refusal_line x.answer) → (refusal_size ≤ length xs) × (take refusal_size xs ≡ histories_listing text)
-  print-refused z room h =
-      let front = refusal-taken s x.answer (omega (arith, room)) h in
-      (front.0, front.1 ∙ ap (λ (y : PlanRead). refusal_line y.answer) e ∙ text-refused text (λ t. z (f ∙ ap (λ (y : PlanRead). number_of y.answer) e ∙ t)))
+module _ (text s : List ℕ) where
+  pub print-refused :
+      {q : Refusal} {xs : List ℕ} →
+      plan_found text ≡ Err q →
+      most_histories * history_line_size ≤ length s →
+      xs ≡ placed s 0 (refusal_line q) →
+      (refusal_size ≤ length xs) × (take refusal_size xs ≡ histories_listing text)
+  unfolding histories_listing lines_or
+  print-refused {q} e room h =
+      let front = refusal-taken s q (omega (arith, room)) h in
+      (front.0, front.1 ∙ rw (none-found text e))
 
-  module _ (z : n ≡ 0) where
-    read : (accepted x.plan ≡ true) × (plan_listing x.plan ≡ histories_listing text)
-    read =
-        let all = text-read text (sym (ap (λ (w : PlanRead). number_of w.answer) e) ∙ sym f ∙ z) in
-        (ap (λ (w : PlanRead). accepted w.plan) e ∙ all.0, ap (λ (w : PlanRead). plan_listing w.plan) e ∙ all.1)
+  module _ (x : PlanRead) (e : plan_found text ≡ Ok x) where
+    plan-is : x.plan ≡ plan_of text
+    plan-is = ap (λ (y : PlanRead). y.plan) (found-given text e).1
+
+    listing-is : plan_listing x.plan ≡ histories_listing text
+    unfolding histories_listing lines_or
+    listing-is = rw ((found-given text e).0, plan-is)
 
     pub print-outside :
         limits_ok x.plan.nodes history_frames ≡ false → most_histories * history_line_size ≤ length s → {xs : List ℕ} →
@@ -208,18 +184,17 @@ module _ (text : List ℕ) (x : PlanRead) (e : x ≡ read_answer text) {n : ℕ}
         (refusal_size ≤ length xs) × (take refusal_size xs ≡ histories_listing text)
     print-outside l big i =
         let front = refusal-taken s NodesOrLength (omega (arith, big)) i in
-        (front.0, front.1 ∙ plan-outside x.plan l ∙ read.1)
+        (front.0, front.1 ∙ plan-outside x.plan l ∙ listing-is)
 
-    module _ (l : limits_ok x.plan.nodes history_frames ≡ true) {r : ℕ} (g : r ≡ read_period text) where
+    module _ (l : limits_ok x.plan.nodes history_frames ≡ true) where
       -- the period that the reading finds is R
-      period-is : r ≡ period x.plan
-      unfolding read_period
-      period-is = g ∙ ap (λ (w : PlanRead). accepted_period w.plan) (sym e) ∙ accepted-period x.plan read.0
+      period-is : x.period ≡ period x.plan
+      period-is = ap (λ (y : PlanRead). y.period) (found-given text e).1 ∙ sym (ap period plan-is)
 
-      pub print-fits : length (flatten (histories x.plan.nodes r history_frames)) ≤ most_histories * history_frames
+      pub print-fits : length (flatten (histories x.plan.nodes x.period history_frames)) ≤ most_histories * history_frames
       print-fits = masks-few x.plan l period-is
 
-      module _ {size : ℕ} (h : size ≡ length (flatten (histories x.plan.nodes r history_frames))) where
+      module _ {size : ℕ} (h : size ≡ length (flatten (histories x.plan.nodes x.period history_frames))) where
         count-is : size / history_frames ≡ length (plan_histories x.plan history_frames)
         count-is = (count-few x.plan l period-is h).0
 
@@ -228,9 +203,9 @@ module _ (text : List ℕ) (x : PlanRead) (e : x ≡ read_answer text) {n : ℕ}
 
         pub print-lines :
             most_histories * history_line_size ≤ length s → (masks : List ℕ) {ms xs : List ℕ} →
-            ms ≡ placed masks 0 (flatten (histories x.plan.nodes r history_frames)) →
+            ms ≡ placed masks 0 (flatten (histories x.plan.nodes x.period history_frames)) →
             xs ≡ placed s 0 (joined (history_line_at ms) (size / history_frames)) →
             (size / history_frames * history_line_size ≤ length xs) × (take (size / history_frames * history_line_size) xs ≡ histories_listing text)
         print-lines big masks {ms} i j =
             let front = front-taken s (joined (history_line_at ms) (size / history_frames)) (size / history_frames * history_line_size) (lines_long ms (size / history_frames)) (omega (arith, big, print-count)) j in
-            (front.0, front.1 ∙ ap₂ (λ (l : List ℕ) (k : ℕ). joined (history_line_at l) k) i count-is ∙ lines-printed x.plan l period-is masks ∙ read.1)
+            (front.0, front.1 ∙ ap₂ (λ (l : List ℕ) (k : ℕ). joined (history_line_at l) k) i count-is ∙ lines-printed x.plan l period-is masks ∙ listing-is)

@@ -1,9 +1,7 @@
 -- Request 2026-05: "A program prints those of length 3 for `plan.txt`, one a line, masks in width 4, or the refusal as a run does."
 use Rattle.std.specs.Prelude.{cond, List, [], ◌∷◌, ℕ, length, get_or}
-use Rattle.std.proofs.Math.Option
 use Rattle.array.specs.Index.{joined}
-use Rattle.answer.specs.declared.Answer.TheVariants.{Done, NodesOrLength}
-use Rattle.answer.specs.Tests.{unless_refused}
+use Rattle.answer.specs.declared.Refusal.TheVariants.{NodesOrLength}
 use Rattle.column.specs.Row.{row}
 use Rattle.plan.specs.declared.Plan.{Plan}
 use Rattle.plan_grammar.specs.Meant.{plan_of}
@@ -11,6 +9,7 @@ use Rattle.plan_grammar.specs.Refused.{text_refusal}
 use Rattle.history_masks.specs.Limits.{limits_ok}
 use Rattle.history.specs.Answers.{plan_histories}
 use Rattle.run_line.specs.Line.{mask_width, refusal_line}
+use Rattle.run_line.specs.Listing.{lines_or}
 
 -- "those of length 3"
 abbrev pub history_frames : ℕ
@@ -29,4 +28,4 @@ plan_listing p = cond (limits_ok p.nodes history_frames) (history_lines (plan_hi
 
 -- the whole output, by the bytes of plan.txt
 unfoldable pub histories_listing : List ℕ → List ℕ
-histories_listing text = unless_refused (text_refusal text) (plan_listing (plan_of text)) (refusal_line (Option.get_or (text_refusal text) Done))
+histories_listing text = lines_or (text_refusal text) (plan_listing (plan_of text))

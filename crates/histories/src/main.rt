@@ -8,7 +8,7 @@ ghost use Rattle.column.specs.Row.{row};
 ghost use Rattle.histories.specs.HistoriesListing.{history_frames, history_widths, histories_listing};
 ghost use Rattle.histories.specs.Code.{most_histories, history_line_size};
 
-use answer::Answer;
+use answer::Refusal;
 use std::io;
 use std::io::Write;
 
@@ -36,8 +36,7 @@ fn write_histories(masks: &[u8], count: usize, out: &mut [u8])
     requires { (count ≤ most_histories) × (count * history_frames ≤ length masks.now) × (count * history_line_size ≤ length out.old) }
     ensures { out.new ≡ placed out.old 0 (joined (λ k. row history_widths (from 0 masks.now (k * history_frames) history_frames)) count) }
 {
-    let mut k: usize = 0;
-    while k < count {
+    for k in 0..count {
         let at = k * FRAMES;
         let line = k * LINE;
         write_history(
@@ -46,7 +45,6 @@ fn write_histories(masks: &[u8], count: usize, out: &mut [u8])
             masks[at + 1],
             masks[at + 2],
         );
-        k += 1;
     }
 }
 
@@ -55,35 +53,30 @@ fn print(text: &[u8], masks: &mut [u8], out: &mut [u8]) -> usize
     requires { (most_histories * history_frames ≤ length masks.old) × (most_histories * history_line_size ≤ length out.old) }
     ensures { (result ≤ length out.new) × (take result out.new ≡ histories_listing text.now) }
 {
-    let mut period: usize = 0;
-    let read = plan_text::step::read(text, &mut period);
-    let refused = read.answer;
-    if refused.number() != 0 {
-        run_line::step::write_refusal(out, refused);
-        return run_line::step::REFUSAL;
-    }
+    let read = match plan_text::step::read(text) {
+        Ok(read) => read,
+        Err(refusal) => {
+            run_line::step::write_refusal(out, refusal);
+            return run_line::step::REFUSAL;
+        }
+    };
     let nodes = read.plan.nodes;
     if !history_search::step::limits_ok(nodes, FRAMES) {
-        run_line::step::write_refusal(out, Answer::NodesOrLength);
+        run_line::step::write_refusal(out, Refusal::NodesOrLength);
         return run_line::step::REFUSAL;
     }
-    let size = history_search::step::put_all(nodes, period, FRAMES, masks);
+    let size = history_search::step::put_all(nodes, read.period, FRAMES, masks);
     let count = size / FRAMES;
     write_histories(masks, count, out);
     count * LINE
-}
-
-// A write that fails is passed over.
-fn print_bytes<R: Print>(rt: &R, bytes: &[u8]) {
-    let mut out = io::writer(rt);
-    let _ = out.write_all(bytes);
 }
 
 fn show<R: Print>(rt: &R, text: &[u8], masks: &mut [u8], out: &mut [u8])
     requires { (most_histories * history_frames ≤ length masks.old) × (most_histories * history_line_size ≤ length out.old) }
 {
     let size = print(text, masks, out);
-    print_bytes(rt, &out[0..size]);
+    // A write that fails is passed over.
+    let _ = io::writer(rt).write_all(&out[0..size]);
 }
 
 fn main(rt: HostRuntime) {

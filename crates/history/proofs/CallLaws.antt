@@ -1,4 +1,5 @@
--- What the call answers: refused by 7, 11 or 8, or the histories.
+-- What the call gives: refused by 7, 11 or 8, or the histories.
+use Rattle.std.specs.Prelude.{Ok, Err}
 use mathlib.Core.Path.{◌≡◌, sym, ap, ◌∙◌}
 use mathlib.Core.Bool.{true, false}
 use mathlib.Core.List.{List, ◌++◌, flatten}
@@ -7,12 +8,15 @@ use native.Mathlib.Omega.{arith}
 use native.Mathlib.Nat.{mul-le-mul_right}
 use lib.ListN.{length, drop}
 use borrow.Author.Tests.{le-leb, lt-leb}
-use Rattle.answer.specs.declared.Answer.TheVariants.{Done, InvalidPlan, NodesOrLength, WrongLength}
-use Rattle.answer.specs.Tests.{passed, answered, if_passed}
+use Rattle.answer.specs.declared.Refusal.{Refusal}
+use Rattle.answer.specs.declared.Refusal.TheVariants.{NodesOrLength, WrongLength}
+use Rattle.answer.specs.Tests.{passed, refused, unless, given, if_passed}
 use Rattle.array.specs.Code.{placed}
 use Rattle.plan.specs.declared.Plan.{Plan}
 use Rattle.plan.specs.Known.{period}
 use Rattle.plan.specs.Accepted.{accepted}
+use Rattle.plan_period.specs.Answers.{period_found}
+use Rattle.plan_period.proofs.AnswerLaws.{call-refused, call-kept}
 use Rattle.history_masks.specs.Histories.{histories}
 use Rattle.history_masks.specs.Limits.{limits_ok}
 use Rattle.history.specs.Answers.{plan_histories, histories_tests, histories_answer, histories_place}
@@ -51,31 +55,30 @@ module _ (p : Plan) (k : ℕ) where
 
   module _ (out : List ℕ) where
     -- 7
-    pub histories-refused :
-        accepted p ≡ false → (record { answer = InvalidPlan; count = 0 } ≡ histories_answer p k (length out)) × (out ≡ histories_place p k out)
-    unfolding histories_answer histories_place histories_tests answered passed if_passed
-    histories-refused e = (rw e, rw e)
+    pub histories-refused : {r : Refusal} → period_found p ≡ Err r → (Err r ≡ histories_answer p k (length out)) × (out ≡ histories_place p k out)
+    unfolding histories_answer histories_place histories_tests
+    histories-refused e = (sym (call-refused p e _ _), sym (call-kept p e _ _ out))
 
     module _ (a : accepted p ≡ true) where
       -- 11
       pub histories-outside :
           limits_ok p.nodes k ≡ false →
-          (record { answer = NodesOrLength; count = 0 } ≡ histories_answer p k (length out)) × (out ≡ histories_place p k out)
-      unfolding histories_answer histories_place histories_tests answered passed if_passed
+          (Err NodesOrLength ≡ histories_answer p k (length out)) × (out ≡ histories_place p k out)
+      unfolding histories_answer histories_place histories_tests given unless refused passed if_passed
       histories-outside e = (rw (a, e), rw (a, e))
 
       module _ (l : limits_ok p.nodes k ≡ true) {count : ℕ} (c : count ≡ length (plan_histories p k)) where
         -- 8
         pub histories-short :
             length out < count * k →
-            (record { answer = WrongLength; count = 0 } ≡ histories_answer p k (length out)) × (out ≡ histories_place p k out)
-        unfolding histories_answer histories_place histories_tests answered passed if_passed
+            (Err WrongLength ≡ histories_answer p k (length out)) × (out ≡ histories_place p k out)
+        unfolding histories_answer histories_place histories_tests given unless refused passed if_passed
         histories-short s = let t = lt-leb (length (plan_histories p k) * k) (length out) (rw c at s) in (rw (a, l, t), rw (a, l, t))
 
         pub histories-done :
             {ys : List ℕ} →
             count * k ≤ length out →
             ys ≡ flatten (plan_histories p k) ++ drop (length (plan_histories p k) * k) out →
-            (record { answer = Done; count = count } ≡ histories_answer p k (length out)) × (ys ≡ histories_place p k out)
-        unfolding histories_answer histories_place histories_tests answered passed if_passed
+            (Ok count ≡ histories_answer p k (length out)) × (ys ≡ histories_place p k out)
+        unfolding histories_answer histories_place histories_tests given unless refused passed if_passed
         histories-done s f = let t = le-leb (length (plan_histories p k) * k) (length out) (rw c at s) in (rw (a, l, t, c), rw (a, l, t) f)

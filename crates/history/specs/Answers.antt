@@ -1,11 +1,11 @@
--- What the call answers.
+-- What the call gives.
 use mathlib.Core.List.{List, [], ◌∷◌, ◌++◌, flatten}
-use Rattle.std.specs.Prelude.{ℕ, ◌*◌, leb, length, drop}
-use Rattle.answer.specs.Tests.{Test, test, answered, if_passed}
+use Rattle.std.specs.Prelude.{ℕ, ◌*◌, leb, length, drop, Result}
+use Rattle.answer.specs.declared.Refusal.{Refusal}
+use Rattle.answer.specs.Tests.{Test, test, given, if_passed}
 use Rattle.plan.specs.declared.Plan.{Plan}
 use Rattle.plan.specs.Known.{period}
 use Rattle.plan.specs.Accepted.{accepted}
-use Rattle.history.specs.declared.HistoriesListed.{HistoriesListed}
 use Rattle.history_masks.specs.Histories.{histories}
 use Rattle.history_masks.specs.Limits.{limits_ok}
 
@@ -18,12 +18,8 @@ histories_tests p k room =
     test 7 (accepted p) ∷ test 11 (limits_ok p.nodes k) ∷ test 8 (leb (length (plan_histories p k) * k) room) ∷ []
 
 -- "their count is given"
-unfoldable pub histories_answer : Plan → ℕ → ℕ → HistoriesListed
-histories_answer p k room =
-    record {
-      answer = answered (histories_tests p k room);
-      count = if_passed (histories_tests p k room) (length (plan_histories p k)) 0;
-    }
+unfoldable pub histories_answer : Plan → ℕ → ℕ → Result ℕ Refusal
+histories_answer p k room = given (histories_tests p k room) (length (plan_histories p k))
 
 -- "They fill the front of a lent buffer, one byte a mask, the rest unchanged"
 unfoldable pub histories_place : Plan → ℕ → List ℕ → List ℕ

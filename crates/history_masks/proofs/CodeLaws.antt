@@ -99,12 +99,12 @@ module _ (period past masks rest k : ℕ) (h : bad_in (period - k) masks rest �
   unfolding bad_in
   bad_more l = let e : period - k ≡ suc (period - (k + 1)) = omega arith in (rw e at h)
 
-  pub bad-end : (ltb k period && not (eqb rest 0)) ≡ false → masks ≡ bad_in period 0 past
+  pub bad-rest : rest ≡ 0 → masks ≡ bad_in period 0 past
+  bad-rest z = sym (bad-none (period - k) masks) ∙ (rw z at h)
+
+  pub bad-end : period ≤ k → masks ≡ bad_in period 0 past
   unfolding bad_in
-  bad-end e =
-      split (ltb k period)
-      (λ t. let z : rest ≡ 0 = eqb-true rest 0 (not-false (eqb rest 0) (rw t at e)) in sym (bad-none (period - k) masks) ∙ (rw z at h))
-      (λ t. let z : period - k ≡ 0 = omega (arith, ltb-false k period t) in (rw z at h))
+  bad-end l = let z : period - k ≡ 0 = omega arith in (rw z at h)
 
 -- the test of a mask: more than half are neither bad in it nor in the last R frames
 module _ (nodes period d x mask : ℕ) (h : HoldsMasks nodes d x) (l : mask < 2 ^ nodes) where

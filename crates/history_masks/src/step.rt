@@ -10,11 +10,12 @@ pub fn bad_in(past: u64, period: usize) -> u64
 {
     let mut masks: u64 = 0;
     let mut rest = past;
-    let mut k: usize = 0;
-    while (k < period) & (rest != 0) {
+    for k in 0..period {
+        if rest == 0 {
+            return masks;
+        }
         masks |= rest % 256;
         rest /= 256;
-        k += 1;
     }
     masks
 }

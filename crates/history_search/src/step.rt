@@ -21,6 +21,8 @@ pub fn limits_ok(nodes: usize, frames: usize) -> bool
     (nodes <= NODES) & (1 <= frames) & (frames <= FRAMES)
 }
 
+// Counting and writing walk alike. One walk that is lent what to do with each history would hand the buffer and the place in it through every call, counting too, so the two stay.
+
 // How many masks of a last frame leave more than half of the nodes, with these bad before.
 fn count_last(most: u64, nodes: usize, bad: u64) -> usize
     requires { (nodes ≤ most_history_nodes) × (bad < 2 ^ nodes) }
@@ -28,12 +30,10 @@ fn count_last(most: u64, nodes: usize, bad: u64) -> usize
 {
     let masks: u64 = 1 << nodes;
     let mut total: usize = 0;
-    let mut mask: u64 = 0;
-    while mask < masks {
+    for mask in 0..masks {
         if history_masks::step::most_work(most, bad | mask) {
             total += 1;
         }
-        mask += 1;
     }
     total
 }
@@ -49,12 +49,10 @@ fn count(most: u64, nodes: usize, period: usize, past: u64, done: usize, left: u
     }
     let masks: u64 = 1 << nodes;
     let mut total: usize = 0;
-    let mut mask: u64 = 0;
-    while mask < masks {
+    for mask in 0..masks {
         if history_masks::step::most_work(most, bad | mask) {
             total += count(most, nodes, period, past * 256 + mask, done + 1, left - 1);
         }
-        mask += 1;
     }
     total
 }
@@ -70,16 +68,11 @@ pub fn count_all(nodes: usize, period: usize, frames: usize) -> usize
 
 // The masks of a history, the first frame's first.
 fn put_masks(past: u64, frames: usize, out: &mut [u8], at: usize)
-    requires { at + frames ≤ length out.old }
+    requires { (frames ≤ 8) × (at + frames ≤ length out.old) }
     ensures { out.new ≡ placed out.old at (bytes frames past) }
 {
-    let mut rest = past;
-    let mut k = frames;
-    while 0 < k {
-        k -= 1;
-        out[at + k] = (rest % 256) as u8;
-        rest /= 256;
-    }
+    let masks = past.to_be_bytes();
+    out[at..at + frames].copy_from_slice(&masks[8 - frames..]);
 }
 
 // Writes the histories of so many frames that have these masks before the last, from a place on, and gives the place after them.
@@ -92,18 +85,16 @@ fn put_last(
     out: &mut [u8],
     at: usize,
 ) -> usize
-    requires { (nodes ≤ most_history_nodes) × (bad < 2 ^ nodes) × (past < 256 ^ 3) × (at + length (last_bytes most bad past frames (2 ^ nodes)) ≤ length out.old) }
+    requires { (nodes ≤ most_history_nodes) × (bad < 2 ^ nodes) × (past < 256 ^ 3) × (at + length (last_bytes most bad past frames (2 ^ nodes)) ≤ length out.old) × (frames ≤ 8) }
     ensures { (result ≡ at + length (last_bytes most bad past frames (2 ^ nodes))) × (out.new ≡ placed out.old at (last_bytes most bad past frames (2 ^ nodes))) }
 {
     let masks: u64 = 1 << nodes;
     let mut end = at;
-    let mut mask: u64 = 0;
-    while mask < masks {
+    for mask in 0..masks {
         if history_masks::step::most_work(most, bad | mask) {
             put_masks(past * 256 + mask, frames, out, end);
             end += frames;
         }
-        mask += 1;
     }
     end
 }
@@ -128,8 +119,7 @@ fn put(
     }
     let masks: u64 = 1 << nodes;
     let mut end = at;
-    let mut mask: u64 = 0;
-    while mask < masks {
+    for mask in 0..masks {
         if history_masks::step::most_work(most, bad | mask) {
             end = put(
                 most,
@@ -142,7 +132,6 @@ fn put(
                 end,
             );
         }
-        mask += 1;
     }
     end
 }

@@ -1,12 +1,12 @@
 -- Blocks of lines in a row print what the whole run prints.
+use Rattle.std.specs.Prelude.{Option, None, Some, is_none}
 use mathlib.Core.Path.{◌≡◌, refl, sym, ap, ◌∙◌}
 use mathlib.Core.Bool.{Bool, true, false, cond}
 use mathlib.Core.List.{List, [], ◌++◌, append_assoc, append-nil}
-use mathlib.Core.Option.{Option, none, some}
 use Prim.Native.Nat.{ℕ, zero, suc, ◌+◌, ◌-◌, ◌*◌, ◌≤◌, ◌<◌}
 use native.Mathlib.Omega.{arith}
 use native.Mathlib.Nat.{zero-mul, suc-mul}
-use lib.Dec.{eqb, ltb}
+use lib.Dec.{ltb}
 use lib.ListN.{length, take, drop, length-append, length-drop}
 use lib.Seq.{length-take-le, take-nil, take-append-le, take-append-add, drop-append-le, take_at}
 use borrow.Author.Tests.{lt-ltb, ltb-true, ltb-false}
@@ -14,8 +14,8 @@ use borrow.Rule.Slice.PartMut.{put_mid, same_len_mid}
 use Rattle.array.specs.Index.{joined}
 use Rattle.array.specs.Code.{placed}
 use Rattle.array.proofs.TestLaws.{split}
-use Rattle.answer.specs.declared.Answer.TheVariants.{RunLine}
-use Rattle.answer.specs.Refusal.{number_of}
+use Rattle.answer.specs.declared.Refusal.{Refusal}
+use Rattle.answer.specs.declared.Refusal.TheVariants.{RunLine}
 use Rattle.plan.specs.declared.Plan.{Plan}
 use Rattle.memory.specs.declared.Memory.{Memory}
 use Rattle.system.specs.declared.System.{System}
@@ -32,13 +32,13 @@ use Rattle.lines.proofs.NextLaws.{system-none, single-none, system-next, single-
 
 -- ---- a run whose first line is not run
 
-module _ (p : Plan) (sys : System) (single : Memory) (first : ℕ) (rest : List ℕ) (e : first < most_run_lines → run_numbers p.nodes p.sensors (take (run_line_size p.sensors) rest) ≡ none) where
+module _ (p : Plan) (sys : System) (single : Memory) (first : ℕ) (rest : List ℕ) (e : first < most_run_lines → run_numbers p.nodes p.sensors (take (run_line_size p.sensors) rest) ≡ None) where
   frames-stop : frames p sys single first rest ≡ 0
   unfolding frames read_line
   frames-stop =
       leading-is (λ k. is_some (read_line p sys single first rest k)) (most_run_lines - first) 0 (omega arith) (λ j l. absurd (omega arith))
       (λ l.
-      let o : read_line p sys single first rest 0 ≡ none = rw (zero-mul (run_line_size p.sensors)) (e (omega arith)) in
+      let o : read_line p sys single first rest 0 ≡ None = rw (zero-mul (run_line_size p.sensors)) (e (omega arith)) in
       ap is_some o)
 
   printed-stop : printed p sys single first rest ≡ []
@@ -53,7 +53,7 @@ module _ (p : Plan) (sys : System) (single : Memory) (first : ℕ) (rest : List 
   unfolding run_listing
   run-stop = rw (printed-stop, left-stop, frames-stop)
 
-nothing-first : (p : Plan) → run_numbers p.nodes p.sensors (take (run_line_size p.sensors) []) ≡ none
+nothing-first : (p : Plan) → run_numbers p.nodes p.sensors (take (run_line_size p.sensors) []) ≡ None
 nothing-first p = rw (take-nil {A = ℕ} (run_line_size p.sensors)) (nothing_read p.nodes p.sensors)
 
 -- no bytes print nothing
@@ -72,23 +72,23 @@ afterwards p sys single first rest more =
 none_then : (p : Plan) (sys : System) (single : Memory) (first : ℕ) (more : List ℕ) → run_listing p sys single first more ≡ printed p sys single first [] ++ afterwards p sys single first [] more
 unfolding afterwards
 none_then p sys single first more =
-    let e : first < most_run_lines → run_numbers p.nodes p.sensors (take (run_line_size p.sensors) []) ≡ none = λ l. nothing-first p in
+    let e : first < most_run_lines → run_numbers p.nodes p.sensors (take (run_line_size p.sensors) []) ≡ None = λ l. nothing-first p in
     let z : first + 0 ≡ first = omega arith in
     rw (printed-stop p sys single first [] e, left-stop p sys single first [] e, frames-stop p sys single first [] e, system-none p sys single first [], single-none p sys single first [], z)
 
 module _ (p : Plan) (sys : System) (single : Memory) (first : ℕ) (rest more : List ℕ) (whole : run_line_size p.sensors ≤ length rest) where
   -- the first line is not run
   refused-then :
-      (first < most_run_lines → run_numbers p.nodes p.sensors (take (run_line_size p.sensors) rest) ≡ none) →
+      (first < most_run_lines → run_numbers p.nodes p.sensors (take (run_line_size p.sensors) rest) ≡ None) →
       run_listing p sys single first (rest ++ more) ≡ printed p sys single first rest ++ afterwards p sys single first rest more
   unfolding afterwards
   refused-then e =
-      let b : first < most_run_lines → run_numbers p.nodes p.sensors (take (run_line_size p.sensors) (rest ++ more)) ≡ none = λ l. rw (take-append-le (run_line_size p.sensors) rest more whole) (e l) in
+      let b : first < most_run_lines → run_numbers p.nodes p.sensors (take (run_line_size p.sensors) (rest ++ more)) ≡ None = λ l. rw (take-append-le (run_line_size p.sensors) rest more whole) (e l) in
       run-stop p sys single first (rest ++ more) b
       ∙ rw (lt-ltb 0 (length (rest ++ more)) (omega (arith, length-append rest more)), printed-stop p sys single first rest e, left-stop p sys single first rest e, frames-stop p sys single first rest e, lt-ltb 0 (length rest) (omega arith))
 
   -- the first line is run
-  module _ (l : List ℕ) (early : first < most_run_lines) (e : run_numbers p.nodes p.sensors (take (run_line_size p.sensors) rest) ≡ some l) where
+  module _ (l : List ℕ) (early : first < most_run_lines) (e : run_numbers p.nodes p.sensors (take (run_line_size p.sensors) rest) ≡ Some l) where
     abbrev sys' : System
     sys' = system_next p sys l
 
@@ -109,7 +109,7 @@ module _ (p : Plan) (sys : System) (single : Memory) (first : ℕ) (rest more : 
         run_listing p sys' single' (first + 1) (rest' ++ more) ≡ printed p sys' single' (first + 1) rest' ++ afterwards p sys' single' (first + 1) rest' more →
         run_listing p sys single first (rest ++ more) ≡ printed p sys single first rest ++ afterwards p sys single first rest more
     taken_then h =
-        let b : run_numbers p.nodes p.sensors (take (run_line_size p.sensors) (rest ++ more)) ≡ some l = rw (take-append-le (run_line_size p.sensors) rest more whole) e in
+        let b : run_numbers p.nodes p.sensors (take (run_line_size p.sensors) (rest ++ more)) ≡ Some l = rw (take-append-le (run_line_size p.sensors) rest more whole) e in
         let d : drop (run_line_size p.sensors) (rest ++ more) ≡ rest' ++ more = drop-append-le (run_line_size p.sensors) rest more whole in
         run-next p sys single first (rest ++ more) l early b
         ∙ rw (d, h, printed-front p sys single first rest l early e, afterwards-next)
@@ -139,8 +139,8 @@ block-then (suc k) p sys single first rest more e =
         (o : Option (List ℕ)) →
         run_numbers p.nodes p.sensors (take (run_line_size p.sensors) rest) ≡ o →
         run_listing p sys single first (rest ++ more) ≡ printed p sys single first rest ++ afterwards p sys single first rest more
-    go whole then early none q = refused-then p sys single first rest more whole (λ l. q)
-    go whole then early (some l) q = taken_then p sys single first rest more whole l early q (then l)
+    go whole then early None q = refused-then p sys single first rest more whole (λ l. q)
+    go whole then early (Some l) q = taken_then p sys single first rest more whole l early q (then l)
 
 module _ (p : Plan) (sys : System) (single : Memory) (first : ℕ) (rest more : List ℕ) where
   -- every line of `rest` is run: then the listing goes on with `more`, from the run after `rest`
@@ -166,24 +166,24 @@ module _ (r : Run) (block : List ℕ) where
   abbrev left : Bool
   left = line_left r.plan r.system r.single r.frame block
 
-  block-runs-on : left ≡ false → (then : List ℕ) → block_listing r block ++ cond (eqb (number_of (lines_answer r block).answer) 0) then [] ≡ printed r.plan r.system r.single r.frame block ++ then
+  block-runs-on : left ≡ false → (then : List ℕ) → block_listing r block ++ cond (is_none (lines_answer r block).refused) then [] ≡ printed r.plan r.system r.single r.frame block ++ then
   unfolding lines_answer run_listing
   block-runs-on e then = rw (e, append-nil (printed r.plan r.system r.single r.frame block))
 
-  block-ends : left ≡ true → (then : List ℕ) → block_listing r block ++ cond (eqb (number_of (lines_answer r block).answer) 0) then [] ≡ block_listing r block
+  block-ends : left ≡ true → (then : List ℕ) → block_listing r block ++ cond (is_none (lines_answer r block).refused) then [] ≡ block_listing r block
   unfolding lines_answer
   block-ends e then = rw e (append-nil (block_listing r block))
 
   -- the last block
-  block_last : block_listing r block ++ cond (eqb (number_of (lines_answer r block).answer) 0) [] [] ≡ block_listing r block
-  block_last = rw (cond_same {A = List ℕ} (eqb (number_of (lines_answer r block).answer) 0) []) (append-nil (block_listing r block))
+  block_last : block_listing r block ++ cond (is_none (lines_answer r block).refused) [] [] ≡ block_listing r block
+  block_last = rw (cond_same {A = List ℕ} (is_none (lines_answer r block).refused) []) (append-nil (block_listing r block))
 
   -- a block of whole lines, if those after it print the listing of their bytes
   block-first :
       (k : ℕ) (then more : List ℕ) →
       length block ≡ k * run_line_size r.plan.sensors →
       then ≡ block_listing (lines_answer r block).run more →
-      block_listing r block ++ cond (eqb (number_of (lines_answer r block).answer) 0) then [] ≡ block_listing r (block ++ more)
+      block_listing r block ++ cond (is_none (lines_answer r block).refused) then [] ≡ block_listing r (block ++ more)
   unfolding lines_answer
   block-first k then more n h =
       split left
@@ -217,23 +217,24 @@ front-lines r rest out =
     let n : ℕ = frames r.plan r.system r.single r.frame rest in
     take_at (printed_to r.plan r.system r.single r.frame rest n) (drop (length (printed_to r.plan r.system r.single r.frame rest n)) out) (n * printed_size r.plan.actuators) (printed-length r.plan r.system r.single r.frame rest n)
 
--- no line is refused
-front-done : (r : Run) (rest : List ℕ) → number_of (lines_answer r rest).answer ≡ 0 → printed r.plan r.system r.single r.frame rest ≡ block_listing r rest
+-- the line of a refusal, if there is one
+abbrev refused_line : Option Refusal → List ℕ
+refused_line None = []
+refused_line (Some q) = refusal_line q
+
+front-then : (r : Run) (rest : List ℕ) → printed r.plan r.system r.single r.frame rest ++ refused_line (lines_answer r rest).refused ≡ block_listing r rest
 unfolding lines_answer run_listing
-front-done r rest = go (line_left r.plan r.system r.single r.frame rest) refl
-  where
-    go : (t : Bool) → line_left r.plan r.system r.single r.frame rest ≡ t → number_of (lines_answer r rest).answer ≡ 0 → printed r.plan r.system r.single r.frame rest ≡ block_listing r rest
-    go true t e = absurd (let ten : 10 ≡ 0 = sym (rw t) ∙ e in omega arith)
-    go false t e = rw t (sym (append-nil (printed r.plan r.system r.single r.frame rest)))
+front-then r rest = split (line_left r.plan r.system r.single r.frame rest) (λ t. rw t) (λ t. rw t)
+
+-- no line is refused
+front-done : (r : Run) (rest : List ℕ) → (lines_answer r rest).refused ≡ None → printed r.plan r.system r.single r.frame rest ≡ block_listing r rest
+front-done r rest e =
+    let lines : List ℕ = printed r.plan r.system r.single r.frame rest in
+    sym (append-nil lines) ∙ ap (λ (o : Option Refusal). lines ++ refused_line o) (sym e) ∙ front-then r rest
 
 -- a line is refused: its line follows
-front-refused : (r : Run) (rest : List ℕ) → (number_of (lines_answer r rest).answer ≡ 0 → ⊥) → printed r.plan r.system r.single r.frame rest ++ refusal_line (lines_answer r rest).answer ≡ block_listing r rest
-unfolding lines_answer run_listing
-front-refused r rest = go (line_left r.plan r.system r.single r.frame rest) refl
-  where
-    go : (t : Bool) → line_left r.plan r.system r.single r.frame rest ≡ t → (number_of (lines_answer r rest).answer ≡ 0 → ⊥) → printed r.plan r.system r.single r.frame rest ++ refusal_line (lines_answer r rest).answer ≡ block_listing r rest
-    go true t e = rw t
-    go false t e = absurd (e (rw t))
+front-refused : (r : Run) (rest : List ℕ) {q : Refusal} → (lines_answer r rest).refused ≡ Some q → printed r.plan r.system r.single r.frame rest ++ refusal_line q ≡ block_listing r rest
+front-refused r rest e = ap (λ (o : Option Refusal). printed r.plan r.system r.single r.frame rest ++ refused_line o) (sym e) ∙ front-then r rest
 
 module _ (r : Run) (rest out to : List ℕ) (x : Printed) (l : length rest ≤ block_lines * run_line_size r.plan.sensors) (m : block_lines * printed_size r.plan.actuators + refusal_size ≤ length out) (e : x ≡ lines_answer r rest) (f : to ≡ lines_place r rest out) where
   less : block_lines * printed_size r.plan.actuators ≤ length out
@@ -251,25 +252,25 @@ module _ (r : Run) (rest out to : List ℕ) (x : Printed) (l : length rest ≤ b
   front-is : take x.count to ≡ printed r.plan r.system r.single r.frame rest
   front-is = rw (e, f) (front-lines r rest out)
 
-  pub laid_done : number_of x.answer ≡ 0 → LaidBlock r rest to x.count x.run
+  pub laid_done : x.refused ≡ None → LaidBlock r rest to x.count x.run
   laid_done z =
       record {
         fits = omega (arith, laid-room);
-        front = front-is ∙ front-done r rest (ap (λ (y : Printed). number_of y.answer) (sym e) ∙ z);
+        front = front-is ∙ front-done r rest (ap (λ (y : Printed). y.refused) (sym e) ∙ z);
         run_is = ap (λ (y : Printed). y.run) e;
       }
 
   pub laid-refused :
-      (part : List ℕ) →
-      (number_of x.answer ≡ 0 → ⊥) →
-      part ≡ placed (take (x.count + refusal_size - x.count) (drop x.count to)) 0 (refusal_line x.answer) →
+      (part : List ℕ) {why : Refusal} →
+      x.refused ≡ Some why →
+      part ≡ placed (take (x.count + refusal_size - x.count) (drop x.count to)) 0 (refusal_line why) →
       LaidBlock r rest (put_mid x.count (x.count + refusal_size - x.count) to part) (x.count + refusal_size) x.run
-  laid-refused part z g =
+  laid-refused part {why} z g =
       let n : x.count + refusal_size - x.count ≡ refusal_size = omega arith in
       let s : length (take (x.count + refusal_size - x.count) (drop x.count to)) ≡ refusal_size =
       ap (λ (k : ℕ). length (take k (drop x.count to))) n ∙ length-take-le refusal_size (drop x.count to) (omega (arith, length-drop x.count to, laid-room)) in
-      let q : part ≡ refusal_line x.answer = g ∙ placed-whole (take (x.count + refusal_size - x.count) (drop x.count to)) (refusal_line x.answer) (refusal-length x.answer ∙ sym s) in
-      let k : length part ≡ refusal_size = ap length q ∙ refusal-length x.answer in
+      let q : part ≡ refusal_line why = g ∙ placed-whole (take (x.count + refusal_size - x.count) (drop x.count to)) (refusal_line why) (refusal-length why ∙ sym s) in
+      let k : length part ≡ refusal_size = ap length q ∙ refusal-length why in
       let c : length (take x.count to) ≡ x.count = length-take-le x.count to (omega (arith, laid-room)) in
       let post : List ℕ = drop (x.count + refusal_size - x.count) (drop x.count to) in
       record {
@@ -277,8 +278,8 @@ module _ (r : Run) (rest out to : List ℕ) (x : Printed) (l : length rest ≤ b
         front =
             ap (λ (i : ℕ). take (i + refusal_size) (take x.count to ++ (part ++ post))) (sym c)
             ∙ take-append-add (take x.count to) (part ++ post) refusal_size
-            ∙ ap (λ (y : List ℕ). take x.count to ++ y) (take_at part post refusal_size k ∙ q ∙ ap (λ (y : Printed). refusal_line y.answer) e)
-            ∙ ap (λ (y : List ℕ). y ++ refusal_line (lines_answer r rest).answer) front-is
-            ∙ front-refused r rest (λ w. z (ap (λ (y : Printed). number_of y.answer) e ∙ w));
+            ∙ ap (λ (y : List ℕ). take x.count to ++ y) (take_at part post refusal_size k ∙ q)
+            ∙ ap (λ (y : List ℕ). y ++ refusal_line why) front-is
+            ∙ front-refused r rest (ap (λ (y : Printed). y.refused) (sym e) ∙ z);
         run_is = ap (λ (y : Printed). y.run) e;
       }

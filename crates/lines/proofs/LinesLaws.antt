@@ -1,8 +1,8 @@
 -- The lines of a block on rows: after k of them, and between two of them as the loop of `lines` has it.
+use Rattle.std.specs.Prelude.{Option, None, Some}
 use mathlib.Core.Path.{◌≡◌, refl, sym, ap, ◌∙◌, subst}
 use mathlib.Core.Bool.{Bool, true, false}
 use mathlib.Core.List.{List}
-use mathlib.Core.Option.{Option, none, some}
 use Prim.Native.Nat.{ℕ, ◌+◌, ◌-◌, ◌*◌, ◌≤◌, ◌<◌, min}
 use native.Mathlib.Omega.{arith}
 use native.Mathlib.Numerals.{add-one}
@@ -10,8 +10,8 @@ use lib.ListN.{length, take, drop}
 use borrow.Rule.Slice.PartMut.{put_mid, put_same, same_len_mid}
 use Rattle.array.proofs.TestLaws.{clash}
 use Rattle.array.proofs.PlacedLaws.{part_length}
-use Rattle.answer.specs.declared.Answer.{Answer}
-use Rattle.answer.specs.declared.Answer.TheVariants.{Done, RunLine}
+use Rattle.answer.specs.declared.Refusal.{Refusal}
+use Rattle.answer.specs.declared.Refusal.TheVariants.{RunLine}
 use Rattle.plan.specs.declared.Plan.{Plan}
 use Rattle.plan.specs.declared.Sizes.{Sizes}
 use Rattle.plan.specs.Limits.{most_nodes}
@@ -19,12 +19,12 @@ use Rattle.memory.specs.declared.Memory.{Memory}
 use Rattle.system.specs.declared.System.{System}
 use Rattle.system.specs.Fault.{faults_size}
 use Rattle.faults.specs.Code.{Held}
-use Rattle.rows.specs.Code.{row_count, word_count, memory_in, Rows}
+use Rattle.rows.specs.Code.{memory_in, Rows}
 use Rattle.run_line.specs.Line.{run_line_size, printed_size}
 use Rattle.run_line.specs.Listing.{most_run_lines, line_numbers, system_next, single_after, read_line, read_numbers, system_at, single_at, frames}
 use Rattle.lines.specs.declared.Run.{Run}
 use Rattle.lines.specs.declared.Printed.{Printed}
-use Rattle.lines.specs.Code.{block_lines, step_answer, step_place, LineMade, printed_with, lines_answer, lines_place}
+use Rattle.lines.specs.Code.{block_lines, system_then, single_then, step_place, LineMade, printed_with, lines_answer, lines_place}
 use Rattle.lines.proofs.StepLaws.{line-early}
 use Rattle.lines.proofs.RunLaws.{line_bytes, Ran, ran-none, ran-more, ran-ended, numbers-are, frames-are, standing-refused, standing-ended, place_is, block_room, one_more, line-bytes}
 
@@ -77,9 +77,9 @@ module _ (p : Plan) (sys : System) (single : Memory) (first : ℕ) (rest out₀ 
           (subst (λ (m : Memory). LineMade p here m (first + k) o (take b (drop a out)) taken counters' cells' good' seen' to) g.first-row (made here g.rows))
 
       more_by : (x : Option (List ℕ)) → line_told ≡ x → Made x → taken ≡ true → Going (k + 1) counters' cells' good' seen' (put_mid a b out to)
-      unfolding step_answer step_place system_at single_at
-      more_by none q m t = absurd (clash t m.taken_is)
-      more_by (some l) q m t =
+      unfolding system_then single_then step_place system_at single_at
+      more_by None q m t = absurd (clash t m.taken_is)
+      more_by (Some l) q m t =
           let n : l ≡ read_numbers p sys single first rest k = numbers-are p sys single first rest g.ran q in
           let u : system_next p here l ≡ system_at p sys single first rest (k + 1) = rw (add-one k, n) in
           let v : single_after p alone l ≡ single_at p sys single first rest (k + 1) = rw (add-one k, n) in
@@ -90,13 +90,13 @@ module _ (p : Plan) (sys : System) (single : Memory) (first : ℕ) (rest out₀ 
           }
 
       stop-by : (x : Option (List ℕ)) → line_told ≡ x → Made x → taken ≡ false → Going k counters' cells' good' seen' (put_mid a b out to) × (frames p sys single first rest ≡ k)
-      unfolding step_answer step_place read_line
-      stop-by none q m t =
+      unfolding system_then single_then step_place read_line
+      stop-by None q m t =
           let same : put_mid a b out to ≡ out = ap (put_mid a b out) m.out-is ∙ put_same a b out in (
             record { ran = subst (λ (x : List ℕ). Ran p sys single first rest out₀ k x) (sym same) g.ran; rows = m.rows; first-row = m.first-row },
             frames-are p sys single first rest g.ran (λ l. sym (line-early p (first + k) (line_bytes p sys single first rest k) l) ∙ q),
           )
-      stop-by (some l) q m t = absurd (clash m.taken_is t)
+      stop-by (Some l) q m t = absurd (clash m.taken_is t)
 
       -- it is run: one line more
       going_more : taken ≡ true → Going (k + 1) counters' cells' good' seen' (put_mid a b out to)
@@ -108,23 +108,23 @@ module _ (p : Plan) (sys : System) (single : Memory) (first : ℕ) (rest out₀ 
 
     -- what is handed back where the run stops
     module _ (period : ℕ) (r : Printed) {to : ℕ} (e : to ≡ k * width) where
-      abbrev Stopped : Answer → Type 0
-      Stopped answer = (y : System) → Rows y counters cells good seen → r ≡ printed_with answer to p period y (memory_in counters cells 0) (first + k)
+      abbrev Stopped : Option Refusal → Type 0
+      Stopped refused = (y : System) → Rows y counters cells good seen → r ≡ printed_with refused to p period y (memory_in counters cells 0) (first + k)
 
-      told : (answer : Answer) → Stopped answer → r ≡ printed_with answer (k * width) p period here alone (first + k)
-      told answer f =
+      told : (refused : Option Refusal) → Stopped refused → r ≡ printed_with refused (k * width) p period here alone (first + k)
+      told refused f =
           f here g.rows
-          ∙ ap (λ (m : Memory). printed_with answer to p period here m (first + k)) g.first-row
-          ∙ ap (λ (n : ℕ). printed_with answer n p period here alone (first + k)) e
+          ∙ ap (λ (m : Memory). printed_with refused to p period here m (first + k)) g.first-row
+          ∙ ap (λ (n : ℕ). printed_with refused n p period here alone (first + k)) e
 
-      stopped-refused : frames p sys single first rest ≡ k → k * size < length rest → Stopped (RunLine (first + k + 1)) → (r ≡ lines_answer (run_of p period sys single first) rest) × (out ≡ lines_place (run_of p period sys single first) rest out₀)
+      stopped-refused : frames p sys single first rest ≡ k → k * size < length rest → Stopped (Some (RunLine (first + k + 1))) → (r ≡ lines_answer (run_of p period sys single first) rest) × (out ≡ lines_place (run_of p period sys single first) rest out₀)
       stopped-refused n l f =
-          (told (RunLine (first + k + 1)) f ∙ standing-refused p sys single first rest g.ran n period l, place_is p sys single first rest g.ran n period)
+          (told (Some (RunLine (first + k + 1))) f ∙ standing-refused p sys single first rest g.ran n period l, place_is p sys single first rest g.ran n period)
 
-      stopped-ended : length rest ≤ k * size → Stopped Done → (r ≡ lines_answer (run_of p period sys single first) rest) × (out ≡ lines_place (run_of p period sys single first) rest out₀)
+      stopped-ended : length rest ≤ k * size → Stopped None → (r ≡ lines_answer (run_of p period sys single first) rest) × (out ≡ lines_place (run_of p period sys single first) rest out₀)
       stopped-ended l f =
           let n : frames p sys single first rest ≡ k = ran-ended p sys single first rest g.ran l in
-          (told Done f ∙ standing-ended p sys single first rest g.ran n period l, place_is p sys single first rest g.ran n period)
+          (told None f ∙ standing-ended p sys single first rest g.ran n period l, place_is p sys single first rest g.ran n period)
 
 -- ---- between two lines
 
@@ -134,8 +134,6 @@ pub record Between (p : Plan) (s : Sizes) (first : ℕ) (rest counters₀ cells�
   pub to_is : to ≡ k * printed_size p.actuators
   pub few : first + k ≤ most_run_lines
   pub out-long : length out ≡ length out₀
-  pub counters-long : length counters ≡ row_count
-  pub cells-long : length cells ≡ word_count
   pub held-long : length held ≡ most_nodes
   pub faults-long : length faults ≡ faults_size s
   pub parts : Held s held faults
@@ -179,7 +177,7 @@ module _ {p : Plan} {s : Sizes} {first : ℕ} {rest counters₀ cells₀ good₀
       pub line_refused :
           taken ≡ false →
           (period : ℕ) (r : Printed) →
-          ((y : System) → Rows y counters' cells' good' seen' → r ≡ printed_with (RunLine (first + k + 1)) to p period y (memory_in counters' cells' 0) (first + k)) →
+          ((y : System) → Rows y counters' cells' good' seen' → r ≡ printed_with (Some (RunLine (first + k + 1))) to p period y (memory_in counters' cells' 0) (first + k)) →
           (r ≡ lines_answer (run_of p period sys single first) rest) × (put_mid to (to + width - to) out place ≡ lines_place (run_of p period sys single first) rest out₀)
       line_refused t period r f =
           let g = going-stopped p sys single first rest out₀ (i.going sys single h m) (take (end - at) (drop at rest)) place same told i.to_is lent made t in
@@ -191,20 +189,16 @@ module _ {p : Plan} {s : Sizes} {first : ℕ} {rest counters₀ cells₀ good₀
         memory_in counters₀ cells₀ 0 ≡ single →
         taken ≡ true →
         length place ≡ length (take (to + width - to) (drop to out)) →
-        length counters' ≡ length counters →
-        length cells' ≡ length cells →
         length held' ≡ most_nodes →
         length faults' ≡ length faults →
         Held s held' faults' →
         Between p s first rest counters₀ cells₀ good₀ seen₀ out₀ (k + 1) (at + size) (to + width) held' faults' counters' cells' good' seen' (put_mid to (to + width - to) out place)
-    line-run sys single h m t a b c d e f =
+    line-run sys single h m t a d e f =
         record {
           at-is = one_more k (run_line_size p.sensors) i.at-is es;
           to_is = one_more k (printed_size p.actuators) i.to_is ew;
           few = (goes_on sys single h m t).ran.few;
           out-long = same_len_mid to (to + width - to) out place a ∙ i.out-long;
-          counters-long = b ∙ i.counters-long;
-          cells-long = c ∙ i.cells-long;
           held-long = d;
           faults-long = e ∙ i.faults-long;
           parts = f;
@@ -218,6 +212,6 @@ module _ {p : Plan} {s : Sizes} {first : ℕ} {rest counters₀ cells₀ good₀
       memory_in counters₀ cells₀ 0 ≡ single →
       length rest ≤ at →
       (period : ℕ) (r : Printed) →
-      ((y : System) → Rows y counters cells good seen → r ≡ printed_with Done to p period y (memory_in counters cells 0) (first + k)) →
+      ((y : System) → Rows y counters cells good seen → r ≡ printed_with None to p period y (memory_in counters cells 0) (first + k)) →
       (r ≡ lines_answer (run_of p period sys single first) rest) × (out ≡ lines_place (run_of p period sys single first) rest out₀)
   lines-ended sys single h m l period r f = stopped-ended p sys single first rest out₀ (i.going sys single h m) period r i.to_is (omega (arith, i.at-is)) f

@@ -1,8 +1,8 @@
 -- The first line of a run, and those after it.
+use Rattle.std.specs.Prelude.{Option, Some, unwrap_or}
 use mathlib.Core.Path.{◌≡◌, refl, sym, ap, ◌∙◌}
 use mathlib.Core.Bool.{Bool, true, false, cond, ◌&&◌}
 use mathlib.Core.List.{List, [], ◌++◌, append_assoc}
-use mathlib.Core.Option.{Option, some, get_or}
 use Prim.Native.Nat.{ℕ, zero, suc, ◌+◌, ◌-◌, ◌*◌, ◌<◌}
 use native.Mathlib.Omega.{arith}
 use native.Mathlib.Nat.{zero-mul, suc-mul}
@@ -12,7 +12,7 @@ use lib.Seq.{drop-drop}
 use borrow.Author.Tests.{eq-eqb, ne_eqb, eqb-true, eqb-false, lt-ltb, le-ltb, ltb-true, ltb-false}
 use Rattle.array.proofs.TestLaws.{split}
 use Rattle.array.proofs.PlacesLaws.{joined_same}
-use Rattle.answer.specs.declared.Answer.TheVariants.{RunLine}
+use Rattle.answer.specs.declared.Refusal.TheVariants.{RunLine}
 use Rattle.plan.specs.declared.Plan.{Plan}
 use Rattle.memory.specs.declared.Memory.{Memory}
 use Rattle.system.specs.declared.System.{System}
@@ -73,7 +73,7 @@ module _ (p : Plan) (sys : System) (single : Memory) (first : ℕ) (rest : List 
   unfolding single_at
   single_more k = refl
 
-module _ (p : Plan) (sys : System) (single : Memory) (first : ℕ) (rest l : List ℕ) (early : first < most_run_lines) (e : run_numbers p.nodes p.sensors (take (run_line_size p.sensors) rest) ≡ some l) where
+module _ (p : Plan) (sys : System) (single : Memory) (first : ℕ) (rest l : List ℕ) (early : first < most_run_lines) (e : run_numbers p.nodes p.sensors (take (run_line_size p.sensors) rest) ≡ Some l) where
   abbrev size : ℕ
   size = run_line_size p.sensors
 
@@ -86,7 +86,7 @@ module _ (p : Plan) (sys : System) (single : Memory) (first : ℕ) (rest l : Lis
   abbrev rest' : List ℕ
   rest' = drop size rest
 
-  first-line : read_line p sys single first rest 0 ≡ some l
+  first-line : read_line p sys single first rest 0 ≡ Some l
   unfolding read_line
   first-line = rw (zero-mul size) e
 
@@ -103,7 +103,7 @@ module _ (p : Plan) (sys : System) (single : Memory) (first : ℕ) (rest l : Lis
 
   numbers-next : (k : ℕ) → read_numbers p sys single first rest (suc k) ≡ read_numbers p sys' single' (first + 1) rest' k
   unfolding read_numbers
-  numbers-next k = ap (λ (o : Option (List ℕ)). get_or o []) (line-next k)
+  numbers-next k = ap (λ (o : Option (List ℕ)). unwrap_or o []) (line-next k)
 
   pub system-next : (k : ℕ) → system_at p sys single first rest (suc k) ≡ system_at p sys' single' (first + 1) rest' k
   system-next zero = system-more p sys single first rest 0 ∙ rw (first-numbers, system-none p sys single first rest) (sym (system-none p sys' single' (first + 1) rest'))

@@ -1,13 +1,14 @@
 -- A line on rows: its frame from what the steps on rows give, and what it makes of a record.
+use Rattle.std.specs.Prelude.{Option, None, Some}
 use mathlib.Core.Path.{◌≡◌, refl, sym, ap, ◌∙◌, subst}
-use mathlib.Core.Bool.{true, false}
+use mathlib.Core.Bool.{Bool, true, false}
 use mathlib.Core.List.{List, [], ◌∷◌, ◌++◌}
-use mathlib.Core.Option.{Option, none, some}
 use Prim.Native.Nat.{ℕ, ◌+◌, ◌-◌, ◌≤◌, ◌<◌}
 use native.Mathlib.Omega.{arith}
 use lib.ListN.{length, get_or, take, replicate, length-replicate}
 use Rattle.array.specs.Index.{how_many, from}
 use Rattle.array.specs.Bit.{bit}
+use Rattle.array.proofs.TestLaws.{clash}
 use Rattle.column.specs.Row.{row}
 use Rattle.plan.specs.declared.Plan.{Plan}
 use Rattle.plan.specs.declared.Sizes.{Sizes}
@@ -25,13 +26,12 @@ use Rattle.faults.specs.Code.{BadHold}
 use Rattle.faults.proofs.LayoutLaws.{held-fills}
 use Rattle.rows.specs.Code.{memory_in, Rows, same_row}
 use Rattle.rows.proofs.RowLaws.{equal_is}
-use Rattle.run_line.specs.declared.step.LineRead.{LineRead}
-use Rattle.run_line.specs.declared.step.LineRead.TheVariants.{Whole}
+use Rattle.run_line.specs.declared.step.LineHead.{LineHead}
 use Rattle.run_line.specs.Line.{printed_widths}
 use Rattle.run_line.specs.Listing.{line_numbers, fault_bytes, system_next, single_after, plane_values, agreement, working, equal, frame_line}
 use Rattle.run_line.specs.Code.{line_read}
 use Rattle.lines.specs.declared.step.Stepped.{Stepped}
-use Rattle.lines.specs.Code.{step_answer, step_place, OfLine, LineMade}
+use Rattle.lines.specs.Code.{system_then, single_then, step_answer, step_place, OfLine, LineMade}
 use Rattle.lines.proofs.StepLaws.{line-early, line-in-time, Within, numbers-within, take-fits}
 
 -- ---- a frame and its line
@@ -108,18 +108,18 @@ sizes-are p e f = e ∙ ap (sizes_by p) f
 -- ---- the numbers read
 
 -- of a line that is whole, with its patterns as they are lent
-module _ (p : Plan) (s : Sizes) (e : s ≡ sizes_of p) (frame : ℕ) (patterns : List ℕ) {read : LineRead} {mask fill : ℕ} (w : read ≡ Whole mask fill) where
+module _ (p : Plan) (s : Sizes) (e : s ≡ sizes_of p) (frame : ℕ) (patterns : List ℕ) {read : Option LineHead} {head : LineHead} (w : read ≡ Some head) where
   abbrev lent : List ℕ
   lent = take (s.sensors - 0) patterns
 
-  pub read-numbers : line_read read (take p.sensors patterns) ≡ some (mask ∷ fill ∷ lent)
+  pub read-numbers : line_read read (take p.sensors patterns) ≡ Some (head.mask ∷ head.fill ∷ lent)
   read-numbers =
       let n : p.sensors ≡ s.sensors - 0 = omega (arith, ap (λ (t : Sizes). t.sensors) e) in
-      ap (λ (x : LineRead). line_read x (take p.sensors patterns)) w ∙ ap (λ (k : ℕ). some (mask ∷ fill ∷ take k patterns)) n
+      ap (λ (x : Option LineHead). line_read x (take p.sensors patterns)) w ∙ ap (λ (k : ℕ). Some (head.mask ∷ head.fill ∷ take k patterns)) n
 
-  pub read-within : OfLine p frame (line_read read (take p.sensors patterns)) → Within p.sensors fill lent
+  pub read-within : OfLine p frame (line_read read (take p.sensors patterns)) → Within p.sensors head.fill lent
   read-within f =
-      let o : line_numbers p frame f.0 ≡ some (mask ∷ fill ∷ lent) = sym f.1 ∙ read-numbers in
+      let o : line_numbers p frame f.0 ≡ Some (head.mask ∷ head.fill ∷ lent) = sym f.1 ∙ read-numbers in
       numbers-within p.nodes p.sensors f.0 (sym o ∙ line-early p frame f.0 (line-in-time p frame f.0 _ o))
 
   pub read_fits : OfLine p frame (line_read read (take p.sensors patterns)) → s.sensors ≤ length patterns
@@ -130,37 +130,54 @@ module _ (p : Plan) (s : Sizes) (e : s ≡ sizes_of p) (frame : ℕ) (patterns :
 -- ---- what a line makes of rows
 
 module _ (p : Plan) (sys : System) (single : Memory) (frame : ℕ) (place : List ℕ) {o : Option (List ℕ)} {counters cells good seen : List ℕ} where
-  pub made-refused : o ≡ none → Rows sys counters cells good seen → memory_in counters cells 0 ≡ single → LineMade p sys single frame o place false counters cells good seen place
-  unfolding step_answer step_place
+  pub made-refused : o ≡ None → Rows sys counters cells good seen → memory_in counters cells 0 ≡ single → LineMade p sys single frame o place false counters cells good seen place
+  unfolding system_then single_then step_place
   made-refused e h m =
       subst (λ (x : Option (List ℕ)). LineMade p sys single frame x place false counters cells good seen place) (sym e)
       (record { taken_is = refl; rows = h; first-row = m; out-is = refl })
 
   pub made-run :
       (l : List ℕ) {out : List ℕ} →
-      o ≡ some l →
+      o ≡ Some l →
       Rows (system_next p sys l) counters cells good seen →
       memory_in counters cells 0 ≡ single_after p single l →
       out ≡ frame_line p sys single frame l →
       LineMade p sys single frame o place true counters cells good seen out
-  unfolding step_answer step_place
+  unfolding system_then single_then step_place
   made-run l {out} e h m f =
       subst (λ (x : Option (List ℕ)). LineMade p sys single frame x place true counters cells good seen out) (sym e)
       (record { taken_is = refl; rows = h; first-row = m; out-is = f })
 
 -- what is put together again after it
-pub step-made :
-    (p : Plan) (sys : System) (single : Memory) (frame : ℕ) (place : List ℕ) (r : Stepped) {before : Memory} {o numbers : Option (List ℕ)} {counters cells good seen out : List ℕ} →
-    before ≡ single →
-    o ≡ numbers →
-    LineMade p sys before frame o place r.taken counters cells good seen out →
-    ((y : System) → Rows y counters cells good seen → r.system ≡ y) →
-    r.single ≡ memory_in counters cells 0 →
-    (r ≡ step_answer p sys single numbers) × (out ≡ step_place p sys single frame numbers place)
-step-made p sys single frame place r {before} {o} {numbers} {counters} {cells} {good} {seen} {out} b e made f g =
-    let m : LineMade p sys single frame numbers place r.taken counters cells good seen out =
-    subst (λ (x : Option (List ℕ)). LineMade p sys single frame x place r.taken counters cells good seen out) e
-    (subst (λ (x : Memory). LineMade p sys x frame o place r.taken counters cells good seen out) b made) in
-    let s = f _ m.rows in
-    let t = g ∙ m.first-row in
-    ((λ i. record { taken = m.taken_is i; system = s i; single = t i }), m.out-is)
+module _
+    (p : Plan) (sys : System) (single : Memory) (frame : ℕ) (place : List ℕ) {taken : Bool} {before : Memory} {o numbers : Option (List ℕ)} {counters cells good seen out : List ℕ}
+    (b : before ≡ single)
+    (e : o ≡ numbers)
+    (made : LineMade p sys before frame o place taken counters cells good seen out) where
+  abbrev Made : Option (List ℕ) → Type 0
+  Made x = LineMade p sys single frame x place taken counters cells good seen out
+
+  made-here : Made numbers
+  made-here = subst Made e (subst (λ (x : Memory). LineMade p sys x frame o place taken counters cells good seen out) b made)
+
+  abbrev Stands : Option Stepped → Option (List ℕ) → Type 0
+  Stands r x = (r ≡ step_answer p sys single x) × (out ≡ step_place p sys single frame x place)
+
+  pub step-refused : taken ≡ false → Stands None numbers
+  unfolding step_answer step_place
+  step-refused t = go numbers made-here
+    where
+      go : (x : Option (List ℕ)) → Made x → Stands None x
+      go None m = (refl, m.out-is)
+      go (Some l) m = absurd (clash m.taken_is t)
+
+  pub step-run : taken ≡ true → (s : Stepped) → ((y : System) → Rows y counters cells good seen → s.system ≡ y) → s.single ≡ memory_in counters cells 0 → Stands (Some s) numbers
+  unfolding system_then single_then step_answer step_place
+  step-run t s f g = go numbers made-here
+    where
+      go : (x : Option (List ℕ)) → Made x → Stands (Some s) x
+      go None m = absurd (clash t m.taken_is)
+      go (Some l) m =
+          let h = f (system_next p sys l) m.rows in
+          let k : s.single ≡ single_after p single l = g ∙ m.first-row in
+          (ap Some (λ i. record { system = h i; single = k i }), m.out-is)

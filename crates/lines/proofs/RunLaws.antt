@@ -1,8 +1,8 @@
 -- A run, line by line: how many frames are run, and what stands after each of them.
+use Rattle.std.specs.Prelude.{Option, None, Some, is_none, unwrap_or}
 use mathlib.Core.Path.{◌≡◌, refl, sym, ap, ◌∙◌}
 use mathlib.Core.Bool.{Bool, true, false, cond, ◌&&◌}
 use mathlib.Core.List.{List, [], ◌++◌, append_assoc}
-use mathlib.Core.Option.{Option, none, some, get_or}
 use Prim.Native.Nat.{ℕ, zero, suc, ◌+◌, ◌-◌, ◌*◌, ◌≤◌, ◌<◌, min}
 use native.Mathlib.Omega.{arith}
 use native.Mathlib.Numerals.{add-one}
@@ -15,9 +15,8 @@ use borrow.Rule.Slice.PartMut.{put_mid}
 use Rattle.array.specs.Index.{joined}
 use Rattle.array.proofs.TestLaws.{split, clash, and_left, and_right, and-false-left, and-false-right}
 use Rattle.array.proofs.PlacesLaws.{joined-more}
-use Rattle.answer.specs.declared.Answer.{Answer}
-use Rattle.answer.specs.declared.Answer.TheVariants.{Done, RunLine}
-use Rattle.answer.specs.Refusal.{number_of}
+use Rattle.answer.specs.declared.Refusal.{Refusal}
+use Rattle.answer.specs.declared.Refusal.TheVariants.{RunLine}
 use Rattle.plan.specs.declared.Plan.{Plan}
 use Rattle.memory.specs.declared.Memory.{Memory}
 use Rattle.system.specs.declared.System.{System}
@@ -95,22 +94,22 @@ module _ (p : Plan) (sys : System) (single : Memory) (first : ℕ) (rest : List 
     drop-printed : drop (k * width) out ≡ drop (k * width) out₀
     drop-printed = ap (drop (k * width)) h.out-is ∙ drop_at (printed_to k) (drop (k * width) out₀) (k * width) (printed-length k)
 
-    line-is : {l : List ℕ} → line_numbers p (first + k) (line_bytes k) ≡ some l → read_line p sys single first rest k ≡ some l
+    line-is : {l : List ℕ} → line_numbers p (first + k) (line_bytes k) ≡ Some l → read_line p sys single first rest k ≡ Some l
     unfolding read_line
     line-is {l} e = sym (line-early p (first + k) (line_bytes k) (line-in-time p (first + k) (line_bytes k) l e)) ∙ e
 
-    pub numbers-are : {l : List ℕ} → line_numbers p (first + k) (line_bytes k) ≡ some l → l ≡ read_numbers p sys single first rest k
+    pub numbers-are : {l : List ℕ} → line_numbers p (first + k) (line_bytes k) ≡ Some l → l ≡ read_numbers p sys single first rest k
     unfolding read_numbers
-    numbers-are e = sym (ap (λ (x : Option (List ℕ)). get_or x []) (line-is e))
+    numbers-are e = sym (ap (λ (x : Option (List ℕ)). unwrap_or x []) (line-is e))
 
     more-with :
         (to l : List ℕ) →
-        line_numbers p (first + k) (line_bytes k) ≡ some l →
+        line_numbers p (first + k) (line_bytes k) ≡ Some l →
         to ≡ frame_line p (system_at p sys single first rest k) (single_at p sys single first rest k) (first + k) l →
         Ran out₀ (k + 1) (put_mid (k * width) width out to)
     unfolding printed_at
     more-with to l o g =
-        let v : read_line p sys single first rest k ≡ some l = line-is o in
+        let v : read_line p sys single first rest k ≡ Some l = line-is o in
         let c : to ≡ printed_at p sys single first rest k = g ∙ rw (numbers-are o) in
         let w : k * width + width ≡ (k + 1) * width = sym (rw (add-one k) (suc-mul k width)) in
         let d : drop width (drop (k * width) out) ≡ drop ((k + 1) * width) out₀ = ap (drop width) drop-printed ∙ drop-drop width (k * width) out₀ ∙ ap (λ (i : ℕ). drop i out₀) w in
@@ -127,13 +126,13 @@ module _ (p : Plan) (sys : System) (single : Memory) (first : ℕ) (rest : List 
         (to l : List ℕ) {a b : ℕ} →
         a ≡ k * width →
         b ≡ width →
-        line_numbers p (first + k) (line_bytes k) ≡ some l →
+        line_numbers p (first + k) (line_bytes k) ≡ Some l →
         to ≡ frame_line p (system_at p sys single first rest k) (single_at p sys single first rest k) (first + k) l →
         Ran out₀ (k + 1) (put_mid a b out to)
     ran-more to l x y o g = rw (x, y) (more-with to l o g)
 
     -- line k is the first that is not run
-    pub frames-are : (first + k < most_run_lines → read_line p sys single first rest k ≡ none) → frames p sys single first rest ≡ k
+    pub frames-are : (first + k < most_run_lines → read_line p sys single first rest k ≡ None) → frames p sys single first rest ≡ k
     unfolding frames
     frames-are e =
         leading-is (λ j. is_some (read_line p sys single first rest j)) (most_run_lines - first) k (omega (arith, h.few)) h.good
@@ -151,19 +150,19 @@ module _ (p : Plan) (sys : System) (single : Memory) (first : ℕ) (rest : List 
       abbrev r : Run
       r = record { plan = p; period = period; system = sys; single = single; frame = first }
 
-      -- with the answer that belongs to what is left
-      abbrev pub standing : Answer → Printed
-      standing answer = printed_with answer (k * width) p period (system_at p sys single first rest k) (single_at p sys single first rest k) (first + k)
+      -- with the refusal of what is left, if there is one
+      abbrev pub standing : Option Refusal → Printed
+      standing refused = printed_with refused (k * width) p period (system_at p sys single first rest k) (single_at p sys single first rest k) (first + k)
 
       pub place_is : out ≡ lines_place r rest out₀
       unfolding lines_place printed
       place_is = h.out-is ∙ rw (n, printed-length k)
 
-      pub standing-refused : k * size < length rest → standing (RunLine (first + k + 1)) ≡ lines_answer r rest
+      pub standing-refused : k * size < length rest → standing (Some (RunLine (first + k + 1))) ≡ lines_answer r rest
       unfolding lines_answer line_left
       standing-refused l = rw (n, lt-ltb (k * size) (length rest) l)
 
-      pub standing-ended : length rest ≤ k * size → standing Done ≡ lines_answer r rest
+      pub standing-ended : length rest ≤ k * size → standing None ≡ lines_answer r rest
       unfolding lines_answer line_left
       standing-ended l = rw (n, le-ltb (k * size) (length rest) l)
 
@@ -211,13 +210,13 @@ leading-good q (suc n) j l =
         split (eqb j n) (λ t. rw (eqb-true j n t) (and_right (eqb (leading q n) n) (q n) e)) (λ t. before (omega (arith, eqb-false j n t)))
     go false e before m = before m
 
-some-of-is_some : (o : Option (List ℕ)) → is_some o ≡ true → (l : List ℕ) × (o ≡ some l)
-some-of-is_some none e = absurd (clash e refl)
-some-of-is_some (some l) e = (l, refl)
+some-of-is_some : (o : Option (List ℕ)) → is_some o ≡ true → (l : List ℕ) × (o ≡ Some l)
+some-of-is_some None e = absurd (clash e refl)
+some-of-is_some (Some l) e = (l, refl)
 
 module _ (p : Plan) (sys : System) (single : Memory) (first : ℕ) (rest : List ℕ) where
   -- a line that is of form is whole
-  pub line-fits : (k : ℕ) {l : List ℕ} → read_line p sys single first rest k ≡ some l → k * run_line_size p.sensors + run_line_size p.sensors ≤ length rest
+  pub line-fits : (k : ℕ) {l : List ℕ} → read_line p sys single first rest k ≡ Some l → k * run_line_size p.sensors + run_line_size p.sensors ≤ length rest
   unfolding read_line
   line-fits k {l} e =
       let n : length (line_bytes p sys single first rest k) ≡ run_line_size p.sensors = numbers-size p.nodes p.sensors (line_bytes p sys single first rest k) l e in
@@ -244,14 +243,15 @@ module _ (p : Plan) (sys : System) (single : Memory) (first : ℕ) (rest : List 
 
 module _ (r : Run) (rest : List ℕ) where
   -- where no line is refused the run has come further
-  pub lines-further : number_of (lines_answer r rest).answer ≡ 0 → 0 < length rest → r.frame < (lines_answer r rest).run.frame
+  pub lines-further : (lines_answer r rest).refused ≡ None → 0 < length rest → r.frame < (lines_answer r rest).run.frame
   unfolding lines_answer line_left
   lines-further e f = go (frames_left r rest) refl
     where
       go : (n : ℕ) → frames_left r rest ≡ n → r.frame < r.frame + frames_left r rest
       go zero q =
           let z : frames_left r rest * run_line_size r.plan.sensors < length rest = rw q (omega (arith, zero-mul (run_line_size r.plan.sensors))) in
-          absurd (let ten : 10 ≡ 0 = sym (rw (lt-ltb (frames_left r rest * run_line_size r.plan.sensors) (length rest) z)) ∙ e in omega arith)
+          let some : Some (RunLine (r.frame + frames_left r rest + 1)) ≡ None = sym (rw (lt-ltb (frames_left r rest * run_line_size r.plan.sensors) (length rest) z)) ∙ e in
+          absurd (clash (ap is_none some) refl)
       go (suc n) q = omega arith
 
   pub lines-in-time : r.frame ≤ most_run_lines → (lines_answer r rest).run.frame ≤ most_run_lines

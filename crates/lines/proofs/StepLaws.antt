@@ -1,8 +1,9 @@
 -- What the steps of a run need.
+use Rattle.std.specs.Prelude.{Option, None, Some}
+use Rattle.std.proofs.lemmas.Option.{none-some}
 use mathlib.Core.Path.{◌≡◌, refl, sym, ap, ◌∙◌}
 use mathlib.Core.Bool.{Bool, true, false, cond, ◌&&◌}
 use mathlib.Core.List.{List, [], ◌∷◌}
-use mathlib.Core.Option.{Option, none, some}
 use Prim.Native.Nat.{ℕ, zero, suc, ◌+◌, ◌-◌, ◌^◌, ◌≤◌, ◌<◌, min}
 use native.Mathlib.Omega.{arith}
 use native.Mathlib.Nat.{min-eq_left, min-eq_right}
@@ -10,7 +11,7 @@ use lib.Dec.{leb, ltb}
 use lib.ListN.{length, take, drop, length-replicate, length-drop}
 use lib.Seq.{length-take-le, take-nil, take_all}
 use borrow.Author.Tests.{le-ltb, lt-ltb, ltb-true, ltb-false, leb-true, leb-false}
-use Rattle.array.proofs.TestLaws.{split, clash, and_right}
+use Rattle.array.proofs.TestLaws.{split, and_right}
 use Rattle.column.specs.Row.{numbers_shown}
 use Rattle.column.proofs.RowLaws.{total, room-count, room-of-numbers, numbers-length}
 use Rattle.plan.specs.declared.Plan.{Plan}
@@ -45,14 +46,11 @@ front_length out {n} {m} e l = let z : n - 0 ≡ m = omega (arith, e) in rw z (l
 
 -- ---- the line's numbers
 
-none-some : {l : List ℕ} → none ≡ some l → ⊥
-none-some e = let z : ◌≡◌ {A = ℕ} 0 1 = cc in omega arith
-
 pub cond_same : {A : Type 0} (b : Bool) (x : A) → cond b x x ≡ x
 cond_same true x = refl
 cond_same false x = refl
 
-pub line-late : (p : Plan) (frame : ℕ) (line : List ℕ) → most_run_lines ≤ frame → line_numbers p frame line ≡ none
+pub line-late : (p : Plan) (frame : ℕ) (line : List ℕ) → most_run_lines ≤ frame → line_numbers p frame line ≡ None
 unfolding line_numbers
 line-late p frame line l = rw (le-ltb frame most_run_lines l)
 
@@ -65,30 +63,30 @@ empty-of-length [] e = refl
 empty-of-length (x ∷ l) e = absurd (omega arith)
 
 -- no bytes are no line
-pub nothing_read : (n s : ℕ) → run_numbers n s [] ≡ none
+pub nothing_read : (n s : ℕ) → run_numbers n s [] ≡ None
 nothing_read n s = sym (length-bad n s [] (λ e. omega arith))
 
-pub nothing-numbers : (p : Plan) (frame : ℕ) → line_numbers p frame (take (run_line_size p.sensors) []) ≡ none
+pub nothing-numbers : (p : Plan) (frame : ℕ) → line_numbers p frame (take (run_line_size p.sensors) []) ≡ None
 unfolding line_numbers
 nothing-numbers p frame =
-    rw (take-nil {A = ℕ} (run_line_size p.sensors), nothing_read p.nodes p.sensors) (cond_same (ltb frame most_run_lines) none)
+    rw (take-nil {A = ℕ} (run_line_size p.sensors), nothing_read p.nodes p.sensors) (cond_same (ltb frame most_run_lines) None)
 
 -- what is known of numbers within the limits
 pub record Within (s : ℕ) (fill : ℕ) (vs : List ℕ) : Type 0 where
   pub count : length vs ≡ s
   pub small : fill ≤ 255
 
-limits-of-some : (n : ℕ) (o : Option (List ℕ)) (l : List ℕ) → in_limits n o ≡ some l → (o ≡ some l) × (leb (fill_in l) 255 ≡ true)
+limits-of-some : (n : ℕ) (o : Option (List ℕ)) (l : List ℕ) → in_limits n o ≡ Some l → (o ≡ Some l) × (leb (fill_in l) 255 ≡ true)
 unfolding in_limits
-limits-of-some n none l e = absurd (let z : ◌≡◌ {A = ℕ} 0 1 = cc in omega arith)
-limits-of-some n (some k) l e = go (ltb (mask_in k) (2 ^ n) && leb (fill_in k) 255) refl e
+limits-of-some n None l e = absurd (let z : ◌≡◌ {A = ℕ} 0 1 = cc in omega arith)
+limits-of-some n (Some k) l e = go (ltb (mask_in k) (2 ^ n) && leb (fill_in k) 255) refl e
   where
-    go : (t : Bool) → (ltb (mask_in k) (2 ^ n) && leb (fill_in k) 255) ≡ t → cond {A = Option (List ℕ)} t (some k) none ≡ some l → (some k ≡ some l) × (leb (fill_in l) 255 ≡ true)
+    go : (t : Bool) → (ltb (mask_in k) (2 ^ n) && leb (fill_in k) 255) ≡ t → cond {A = Option (List ℕ)} t (Some k) None ≡ Some l → (Some k ≡ Some l) × (leb (fill_in l) 255 ≡ true)
     go true q e = (e, (let s : k ≡ l = cc in ap (λ (x : List ℕ). leb (fill_in x) 255) (sym s) ∙ and_right (ltb (mask_in k) (2 ^ n)) _ q))
     go false q e = absurd (let z : ◌≡◌ {A = ℕ} 0 1 = cc in omega arith)
 
 pub numbers-within :
-    (n s : ℕ) (line : List ℕ) {mask fill : ℕ} {vs : List ℕ} → some (mask ∷ fill ∷ vs) ≡ run_numbers n s line → Within s fill vs
+    (n s : ℕ) (line : List ℕ) {mask fill : ℕ} {vs : List ℕ} → Some (mask ∷ fill ∷ vs) ≡ run_numbers n s line → Within s fill vs
 unfolding run_numbers run_widths
 numbers-within n s line {mask} {fill} {vs} e =
     let h = limits-of-some n (numbers_shown (run_widths s) line) (mask ∷ fill ∷ vs) (sym e) in
@@ -97,7 +95,7 @@ numbers-within n s line {mask} {fill} {vs} e =
     record { count = omega (arith, c, r); small = leb-true fill 255 h.1 }
 
 -- a line of form has its size
-pub numbers-size : (n s : ℕ) (line l : List ℕ) → run_numbers n s line ≡ some l → length line ≡ run_line_size s
+pub numbers-size : (n s : ℕ) (line l : List ℕ) → run_numbers n s line ≡ Some l → length line ≡ run_line_size s
 unfolding run_numbers run_widths total
 numbers-size n s line l e =
     let h = limits-of-some n (numbers_shown (run_widths s) line) l e in
@@ -110,22 +108,22 @@ take-fits (suc n) [] e = absurd (omega arith)
 take-fits (suc n) (x ∷ l) e = let h : n ≤ length l = take-fits n l (omega arith) in omega arith
 
 -- ---- what a step that was or was not taken says of the numbers
-pub taken_none : (p : Plan) (sys : System) (single : Memory) (r : Stepped) (o : Option (List ℕ)) → r ≡ step_answer p sys single o → r.taken ≡ false → o ≡ none
+pub taken_none : (p : Plan) (sys : System) (single : Memory) (r : Option Stepped) (o : Option (List ℕ)) → r ≡ step_answer p sys single o → r ≡ None → o ≡ None
 unfolding step_answer
-taken_none p sys single r none e t = refl
-taken_none p sys single r (some l) e t = absurd (clash refl (ap (λ (x : Stepped). x.taken) (sym e) ∙ t))
+taken_none p sys single r None e t = refl
+taken_none p sys single r (Some l) e t = absurd (none-some _ (sym t ∙ e))
 
-pub taken-some : (p : Plan) (sys : System) (single : Memory) (r : Stepped) (o : Option (List ℕ)) → r ≡ step_answer p sys single o → r.taken ≡ true → (l : List ℕ) × (o ≡ some l)
+pub taken-some : (p : Plan) (sys : System) (single : Memory) (r : Option Stepped) {s : Stepped} (o : Option (List ℕ)) → r ≡ step_answer p sys single o → r ≡ Some s → (l : List ℕ) × (o ≡ Some l)
 unfolding step_answer
-taken-some p sys single r none e t = absurd (clash t (ap (λ (x : Stepped). x.taken) e))
-taken-some p sys single r (some l) e t = (l, refl)
+taken-some p sys single r None e t = absurd (none-some _ (sym e ∙ t))
+taken-some p sys single r (Some l) e t = (l, refl)
 
 -- a line that is run is not too late
-pub line-in-time : (p : Plan) (frame : ℕ) (line l : List ℕ) → line_numbers p frame line ≡ some l → frame < most_run_lines
+pub line-in-time : (p : Plan) (frame : ℕ) (line l : List ℕ) → line_numbers p frame line ≡ Some l → frame < most_run_lines
 line-in-time p frame line l e =
     split (ltb frame most_run_lines)
     (λ t. ltb-true frame most_run_lines t)
-    (λ t. absurd (none-some (sym (late t) ∙ e)))
+    (λ t. absurd (none-some _ (sym (late t) ∙ e)))
   where
-    late : ltb frame most_run_lines ≡ false → line_numbers p frame line ≡ none
+    late : ltb frame most_run_lines ≡ false → line_numbers p frame line ≡ None
     late t = line-late p frame line (ltb-false frame most_run_lines t)

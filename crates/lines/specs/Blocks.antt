@@ -1,7 +1,6 @@
 -- A run read in blocks, as the program reads it: each block prints the listing of its bytes from the run that the one before it left, until a line is
 -- refused. Together they print the listing of the joined bytes (proofs/BlockLaws).
-use Rattle.std.specs.Prelude.{◌≡◌, cond, List, [], ◌∷◌, ◌++◌, ℕ, ◌*◌, ◌≤◌, eqb, length, take}
-use Rattle.answer.specs.Refusal.{number_of}
+use Rattle.std.specs.Prelude.{◌≡◌, cond, List, [], ◌∷◌, ◌++◌, ℕ, ◌*◌, ◌≤◌, length, take, is_none}
 use Rattle.run_line.specs.Listing.{run_listing}
 use Rattle.lines.specs.declared.Run.{Run}
 use Rattle.lines.specs.Code.{lines_answer}
@@ -22,7 +21,7 @@ block_listing r block = run_listing r.plan r.system r.single r.frame block
 unfoldable pub blocks_listing : Run → List (List ℕ) → List ℕ
 blocks_listing r [] = []
 blocks_listing r (block ∷ blocks) =
-    block_listing r block ++ cond (eqb (number_of (lines_answer r block).answer) 0) (blocks_listing (lines_answer r block).run blocks) []
+    block_listing r block ++ cond (is_none (lines_answer r block).refused) (blocks_listing (lines_answer r block).run blocks) []
 
 -- a block is printed from the front of a buffer, and leaves the run
 pub record LaidBlock (r : Run) (block out : List ℕ) (count : ℕ) (left : Run) : Type 0 where

@@ -1,6 +1,5 @@
 -- A run between two lines: the next line's numbers, and the state after its frame.
-use Rattle.std.specs.Prelude.{List, ℕ, ◌+◌, take}
-use Rattle.std.proofs.Math.Option.{Option}
+use Rattle.std.specs.Prelude.{List, ℕ, ◌+◌, take, Option}
 use Rattle.plan.specs.Known.{period}
 use Rattle.run_line.specs.Line.{run_line_size}
 use Rattle.run_line.specs.Listing.{line_numbers, system_next, single_after}

@@ -1,20 +1,18 @@
--- Request 2026-04: "plans accepted before keep every answer", call by call; those of the library for C are by the same tests, at the records of their words. What a call answers and what it leaves in records
--- and buffers is by its tests (`answered`, `if_passed`) or by the refusal of its text: but for records and texts of fewer than 3 nodes that are accepted now, these are the ones before.
+-- Request 2026-04: "plans accepted before keep every answer", call by call; those of the library for C are by the same tests, at the records of their words. What a call gives and what it leaves in records
+-- and buffers is by its tests (`given`, `if_passed`) or by the refusal of its text: but for records and texts of fewer than 3 nodes that are accepted now, these are the ones before.
 use mathlib.Core.Path.{◌≡◌}
 use mathlib.Core.Bool.{true, ◌&&◌}
 use mathlib.Core.List.{List, [], ◌∷◌}
-use mathlib.Core.Option.{get_or}
 use Prim.Native.Nat.{ℕ, ◌≤◌}
 use lib.Dec.{eqb, leb}
 use lib.ListN.{length}
-use Rattle.answer.specs.declared.Answer.TheVariants.{Done}
-use Rattle.answer.specs.Tests.{Test, test, unless_refused}
+use Rattle.answer.specs.Tests.{Test, test, unless}
 use Rattle.plan.specs.declared.Plan.{Plan}
 use Rattle.plan.specs.Accepted.{accepted}
 use Rattle.plan.specs.Earlier.{least_before, accepted_from}
 use Rattle.plan.proofs.EarlierLaws.{accepted-kept}
 use Rattle.plan_period.specs.Answers.{plan_tests}
-use Rattle.plan_grammar.specs.Meant.{zero_plan, plan_of}
+use Rattle.plan_grammar.specs.Meant.{plan_of}
 use Rattle.plan_grammar.specs.Written.{plan_text}
 use Rattle.plan_grammar.specs.Earlier.{refusal_before, NotFew}
 use Rattle.plan_grammar.proofs.EarlierLaws.{text-kept}
@@ -27,10 +25,10 @@ use Rattle.system.specs.System.{power_on}
 use Rattle.system.specs.CountCalls.{working_tests, equal_tests}
 use Rattle.system.specs.Single.{single_tests}
 use Rattle.system.specs.FrameCall.{mask_ok, counts_ok, lengths_ok, frame_tests}
-use Rattle.run_line.specs.Line.{printed_size, refusal_line}
-use Rattle.run_line.specs.Listing.{run_listing, listing}
+use Rattle.run_line.specs.Line.{printed_size}
+use Rattle.run_line.specs.Listing.{run_listing, lines_or, listing}
 use Rattle.lines.specs.declared.Run.{Run}
-use Rattle.listing_start.specs.Answers.{zero_run, start_of, start_answer}
+use Rattle.listing_start.specs.Answers.{start_of, start_answer}
 use Rattle.listing.specs.Answers.{line_test, next_tests}
 
 -- ---- records
@@ -90,19 +88,14 @@ next-kept r many rest room = rw (accepted-kept r.plan many)
 -- ---- texts
 
 module _ (s : List ℕ) (many : NotFew s) where
-  pub read_kept : read_answer s ≡ record { answer = get_or (refusal_before s) Done; plan = unless_refused (refusal_before s) (plan_of s) zero_plan }
+  pub read_kept : read_answer s ≡ unless (refusal_before s) (plan_of s)
   unfolding read_answer
   read_kept = rw (text-kept s many)
 
-  pub start-kept : start_answer s ≡ record { answer = get_or (refusal_before s) Done; run = unless_refused (refusal_before s) (start_of (plan_of s)) zero_run }
+  pub start-kept : start_answer s ≡ unless (refusal_before s) (start_of (plan_of s))
   unfolding start_answer
   start-kept = rw (text-kept s many)
 
-  pub listing-kept :
-      (run : List ℕ) →
-      listing s run
-      ≡ unless_refused (refusal_before s)
-      (run_listing (plan_of s) (power_on (plan_of s)) (powered_on (plan_of s)) 0 run)
-      (refusal_line (get_or (refusal_before s) Done))
+  pub listing-kept : (run : List ℕ) → listing s run ≡ lines_or (refusal_before s) (run_listing (plan_of s) (power_on (plan_of s)) (powered_on (plan_of s)) 0 run)
   unfolding listing
   listing-kept run = rw (text-kept s many)

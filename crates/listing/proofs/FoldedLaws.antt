@@ -1,8 +1,8 @@
 -- The listing is what the calls print, made one after another over the lines of the run.
+use Rattle.std.specs.Prelude.{Option, None, Some, Ok, Err}
 use mathlib.Core.Path.{◌≡◌, refl, sym, ap, ◌∙◌}
 use mathlib.Core.Bool.{Bool, true, false, cond}
 use mathlib.Core.List.{List, [], ◌∷◌, ◌++◌}
-use mathlib.Core.Option.{Option, none, some}
 use Prim.Native.Nat.{ℕ, zero, suc, ◌+◌, ◌≤◌, ◌<◌, min}
 use native.Mathlib.Omega.{arith}
 use native.Mathlib.Nat.{zero-mul, min-eq_left, min-le_left}
@@ -14,10 +14,9 @@ use Rattle.array.specs.Index.{joined, fill}
 use Rattle.array.proofs.TestLaws.{split}
 use Rattle.array.proofs.IndexLaws.{all_below-all}
 use Rattle.array.proofs.PlacesLaws.{fill-length, fill-in}
-use Rattle.answer.specs.declared.Answer.{Answer}
-use Rattle.answer.specs.declared.Answer.TheVariants.{Done, RunLine}
-use Rattle.answer.specs.Refusal.{number_of}
-use Rattle.answer.specs.Tests.{passed, answered, if_passed, unless_refused}
+use Rattle.answer.specs.declared.Refusal.{Refusal}
+use Rattle.answer.specs.declared.Refusal.TheVariants.{RunLine}
+use Rattle.answer.specs.Tests.{passed, refused, unless, given, if_passed}
 use Rattle.plan.specs.declared.Plan.{Plan}
 use Rattle.plan.specs.Limits.{most_nodes}
 use Rattle.plan.specs.Known.{period}
@@ -25,7 +24,6 @@ use Rattle.plan.specs.Accepted.{accepted}
 use Rattle.plan.proofs.AcceptedLaws.{shape-of-accepted}
 use Rattle.plan_grammar.specs.Meant.{plan_of}
 use Rattle.plan_grammar.specs.Refused.{text_refusal}
-use Rattle.plan_grammar.proofs.RefusedLaws.{refusal-numbered}
 use Rattle.plan_text.proofs.TextLaws.{read-plan}
 use Rattle.memory.specs.declared.Memory.{Memory}
 use Rattle.memory.specs.Node.{powered_on}
@@ -36,12 +34,12 @@ use Rattle.system.specs.Counts.{count_after, good_after}
 use Rattle.system.specs.Frame.{good_of, system_after}
 use Rattle.system.specs.FrameCall.{counts_ok}
 use Rattle.run_line.specs.Line.{mask_in, run_line_size, run_numbers, printed_size, refusal_line}
-use Rattle.run_line.specs.Listing.{most_run_lines, system_next, single_after, frame_line, read_line, frames, printed, line_left, run_listing, listing}
+use Rattle.run_line.specs.Listing.{most_run_lines, is_some, system_next, single_after, frame_line, read_line, frames, printed, line_left, run_listing, lines_or, listing}
 use Rattle.lines.specs.declared.Run.{Run}
 use Rattle.lines.specs.Run.{run_after, next_numbers}
-use Rattle.listing_start.specs.Answers.{start_of, start_answer, is_done}
-use Rattle.listing.specs.Answers.{line_test, next_tests, taken, run_taken, next_answer, place_taken, next_place}
-use Rattle.listing.specs.Folded.{blank, next_of, printed_by, folded, by_blocks}
+use Rattle.listing_start.specs.Answers.{start_of, start_answer}
+use Rattle.listing.specs.Answers.{line_test, next_tests, taken, run_taken, next_answer, next_run, place_taken, next_place}
+use Rattle.listing.specs.Folded.{blank, next_of, next_left, lines_after, printed_by, folded, by_blocks}
 use Rattle.run_line.proofs.WritingLaws.{frame-length}
 use Rattle.lines.proofs.StepLaws.{empty-of-length, line-early, line-in-time}
 use Rattle.listing.proofs.CallLaws.{nothing-next, kept}
@@ -96,29 +94,29 @@ module _ (p : Plan) (sys : System) (single : Memory) (first : ℕ) (rest : List 
   room : leb (printed_size p.actuators) (printed_size p.actuators) ≡ true
   room = le-leb (printed_size p.actuators) (printed_size p.actuators) (omega arith)
 
-  next-answer : (next_of state rest).answer ≡ answered (line_test state rest ∷ [])
-  unfolding next_answer next_tests answered
-  next-answer = rw (a, c, room)
-
   next-taken : taken state rest (printed_size p.actuators) ≡ next_numbers state rest
   unfolding taken next_tests line_test passed if_passed
   next-taken = rw (a, c, room) (kept (eqb (length rest) 0) (next_numbers state rest))
 
-  next-early : (l : List ℕ) → next_numbers state rest ≡ some l → first < most_run_lines
+  next-answer : next_of state rest ≡ given (line_test state rest ∷ []) (cond (is_some (next_numbers state rest)) (printed_size p.actuators) 0)
+  unfolding next_answer next_tests given refused
+  next-answer = rw (next-taken, a, c, room)
+
+  next-early : (l : List ℕ) → next_numbers state rest ≡ Some l → first < most_run_lines
   unfolding next_numbers
   next-early l q = line-in-time p first (take (run_line_size p.sensors) rest) l q
 
-  next-numbers : (l : List ℕ) → next_numbers state rest ≡ some l → run_numbers p.nodes p.sensors (take (run_line_size p.sensors) rest) ≡ some l
+  next-numbers : (l : List ℕ) → next_numbers state rest ≡ Some l → run_numbers p.nodes p.sensors (take (run_line_size p.sensors) rest) ≡ Some l
   unfolding next_numbers
   next-numbers l q = sym (line-early p first (take (run_line_size p.sensors) rest) (next-early l q)) ∙ q
 
   by-more :
       (n : ℕ) →
       printed_by (suc n) state rest
-      ≡ cond (is_done (next_of state rest).answer)
-      (cond (eqb (next_of state rest).count 0) []
-      (take (next_of state rest).count (next_place state rest (blank state)) ++ printed_by n (next_of state rest).run (drop (run_line_size p.sensors) rest)))
-      (refusal_line (next_of state rest).answer)
+      ≡ lines_after (next_of state rest)
+      (λ count.
+      cond (eqb count 0) []
+      (take count (next_place state rest (blank state)) ++ printed_by n (next_left state rest) (drop (run_line_size p.sensors) rest)))
   unfolding printed_by
   by-more n = refl
 
@@ -129,44 +127,42 @@ module _ (p : Plan) (sys : System) (single : Memory) (first : ℕ) (rest : List 
 
   -- nothing is left
   fold-ended : (n : ℕ) → first ≤ most_run_lines → length rest ≡ 0 → run_listing p sys single first rest ≡ printed_by (suc n) state rest
-  unfolding line_test answered next_answer
+  unfolding line_test given unless refused
   fold-ended n f e =
       let r : rest ≡ [] = empty-of-length rest e in
       let k : frames p sys single first rest ≡ 0 = ran-ended p sys single first rest (ran-none p sys single first rest [] f) (omega arith) in
-      let t : taken state rest (printed_size p.actuators) ≡ none = next-taken ∙ ap (next_numbers state) r ∙ nothing-next state in
-      let w : (next_of state rest).answer ≡ Done = next-answer ∙ rw (eq-eqb (length rest) 0 e) in
-      let z : (next_of state rest).count ≡ 0 = rw t in
-      run_none k ∙ rw (le-ltb 0 (length rest) (omega arith)) (sym (by-more n ∙ rw (w, z)))
+      let t : next_numbers state rest ≡ None = ap (next_numbers state) r ∙ nothing-next state in
+      let w : next_of state rest ≡ Ok 0 = next-answer ∙ rw (eq-eqb (length rest) 0 e, t) in
+      run_none k ∙ rw (le-ltb 0 (length rest) (omega arith)) (sym (by-more n ∙ rw w))
 
   -- the line is refused
   fold-refused :
-      (n : ℕ) → (length rest ≡ 0 → ⊥) → first ≤ most_run_lines → next_numbers state rest ≡ none → run_listing p sys single first rest ≡ printed_by (suc n) state rest
-  unfolding line_test answered read_line next_numbers
+      (n : ℕ) → (length rest ≡ 0 → ⊥) → first ≤ most_run_lines → next_numbers state rest ≡ None → run_listing p sys single first rest ≡ printed_by (suc n) state rest
+  unfolding line_test given unless refused read_line next_numbers
   fold-refused n e f q =
       let size : ℕ = run_line_size p.sensors in
       let k : frames p sys single first rest ≡ 0 =
       frames-are p sys single first rest (ran-none p sys single first rest [] f)
       (λ m. rw (zero-mul size) (sym (line-early p first (take size rest) (omega arith)) ∙ q)) in
       let z : first + 0 ≡ first = omega arith in
-      let w : (next_of state rest).answer ≡ RunLine (first + 1) = next-answer ∙ rw (ne_eqb (length rest) 0 e, q, min-eq_left f) in
+      let w : next_of state rest ≡ Err (RunLine (first + 1)) = next-answer ∙ rw (ne_eqb (length rest) 0 e, q, min-eq_left f) in
       run_none k ∙ rw (lt-ltb 0 (length rest) (omega arith), z) (sym (by-more n ∙ rw w))
 
   -- the line is run
   fold-run :
       (n : ℕ) (l : List ℕ) →
       (length rest ≡ 0 → ⊥) →
-      next_numbers state rest ≡ some l →
+      next_numbers state rest ≡ Some l →
       printed_by (suc n) state rest ≡ frame_line p sys single first l ++ printed_by n (run_after state l) (drop (run_line_size p.sensors) rest)
-  unfolding line_test answered next_answer next_place place_taken run_taken
+  unfolding line_test given unless refused next_run next_place place_taken run_taken
   fold-run n l e q =
       let width : ℕ = printed_size p.actuators in
-      let t : taken state rest width ≡ some l = next-taken ∙ q in
-      let w : (next_of state rest).answer ≡ Done = next-answer ∙ rw (ne_eqb (length rest) 0 e, q) in
-      let z : (next_of state rest).count ≡ width = rw t in
-      let y : (next_of state rest).run ≡ run_after state l = rw t in
+      let t : taken state rest width ≡ Some l = next-taken ∙ q in
+      let w : next_of state rest ≡ Ok width = next-answer ∙ rw (ne_eqb (length rest) 0 e, q) in
+      let y : next_left state rest ≡ run_after state l = rw t in
       let b : next_place state rest (blank state) ≡ frame_line p sys single first l ++ drop width (blank state) = rw (length-replicate {A = ℕ} width 0, t) in
       let u : take width (next_place state rest (blank state)) ≡ frame_line p sys single first l = ap (take width) b ∙ take_at (frame_line p sys single first l) (drop width (blank state)) width (frame-length p sys single first l) in
-      by-more n ∙ rw (w, z, y, ne_eqb width 0 (λ i. omega arith), u)
+      by-more n ∙ rw (w, y, ne_eqb width 0 (λ i. omega arith), u)
 
   -- one call more, if what is left after its line is printed by the others
   fold_more :
@@ -179,8 +175,8 @@ module _ (p : Plan) (sys : System) (single : Memory) (first : ℕ) (rest : List 
       (λ t. go (eqb-false (length rest) 0 t) (next_numbers state rest) refl)
     where
       go : (length rest ≡ 0 → ⊥) → (o : Option (List ℕ)) → next_numbers state rest ≡ o → run_listing p sys single first rest ≡ printed_by (suc n) state rest
-      go e none q = fold-refused n e f q
-      go e (some l) q =
+      go e None q = fold-refused n e f q
+      go e (Some l) q =
           let t : first < most_run_lines = next-early l q in
           run-next p sys single first rest l t (next-numbers l q) ∙ ap (λ (x : List ℕ). frame_line p sys single first l ++ x) (h l t) ∙ sym (fold-run n l e q)
 
@@ -201,19 +197,19 @@ fold-listing (suc n) p sys single first rest a c f m =
 -- ---- the whole listing
 
 pub listing-folded : (plan run : List ℕ) → listing plan run ≡ folded plan run
-unfolding listing folded start_answer unless_refused start_of
+unfolding listing lines_or folded start_answer unless start_of
 listing-folded plan run = go (text_refusal plan) refl
   where
-    go : (o : Option Answer) → text_refusal plan ≡ o → listing plan run ≡ folded plan run
-    go none q =
+    go : (o : Option Refusal) → text_refusal plan ≡ o → listing plan run ≡ folded plan run
+    go None q =
         rw q (fold-listing most_run_lines (plan_of plan) (power_on (plan_of plan)) (powered_on (plan_of plan)) 0 run (read-plan plan q) (counts_start (plan_of plan) (read-plan plan q)) (omega arith) (omega arith))
-    go (some x) q = rw (q, ne_eqb (number_of x) 0 (refusal-numbered plan x q))
+    go (Some x) q = rw q
 
 -- and what the run prints in blocks of whole lines, but perhaps the last
 pub listing-by-blocks : (plan : List ℕ) {blocks : List (List ℕ)} → WholeBlocks (run_line_size (plan_of plan).sensors) blocks → listing plan (joined_blocks blocks) ≡ by_blocks plan blocks
-unfolding listing by_blocks start_answer unless_refused start_of
+unfolding listing lines_or by_blocks start_answer unless start_of
 listing-by-blocks plan {blocks} h = go (text_refusal plan) refl
   where
-    go : (o : Option Answer) → text_refusal plan ≡ o → listing plan (joined_blocks blocks) ≡ by_blocks plan blocks
-    go none q = rw q (sym (blocks-listing (start_of (plan_of plan)) h))
-    go (some x) q = rw (q, ne_eqb (number_of x) 0 (refusal-numbered plan x q))
+    go : (o : Option Refusal) → text_refusal plan ≡ o → listing plan (joined_blocks blocks) ≡ by_blocks plan blocks
+    go None q = rw q (sym (blocks-listing (start_of (plan_of plan)) h))
+    go (Some x) q = rw q

@@ -1,13 +1,12 @@
--- What the next line of a run answers, refused or not. Beside a refusal the state handed in and the lent buffer stay as they were.
-use Rattle.std.specs.Prelude.{cond, ◌||◌, List, [], ◌∷◌, ◌++◌, ℕ, ◌+◌, min, eqb, leb, length, drop}
-use Rattle.std.proofs.Math.Option.{Option, none, some}
-use Rattle.answer.specs.Tests.{Test, test_at, test, answered, if_passed}
+-- What the next line of a run gives, refused or not. Beside a refusal the state handed in and the lent buffer stay as they were.
+use Rattle.std.specs.Prelude.{cond, ◌||◌, List, [], ◌∷◌, ◌++◌, ℕ, ◌+◌, min, eqb, leb, length, drop, Option, None, Some, Result}
+use Rattle.answer.specs.declared.Refusal.{Refusal}
+use Rattle.answer.specs.Tests.{Test, test_at, test, given, if_passed}
 use Rattle.plan.specs.Accepted.{accepted}
 use Rattle.system.specs.FrameCall.{counts_ok}
 use Rattle.run_line.specs.Line.{printed_size}
 use Rattle.run_line.specs.Listing.{most_run_lines, is_some, frame_line}
 use Rattle.lines.specs.declared.Run.{Run}
-use Rattle.lines.specs.declared.Printed.{Printed}
 use Rattle.lines.specs.Run.{run_after, next_numbers}
 
 -- ---- the next line, of what is left of the run
@@ -28,23 +27,22 @@ next_tests r rest room =
 
 -- the numbers of the line that is run
 unfoldable pub taken : Run → List ℕ → ℕ → Option (List ℕ)
-taken r rest room = if_passed (next_tests r rest room) (next_numbers r rest) none
+taken r rest room = if_passed (next_tests r rest room) (next_numbers r rest) None
 
 unfoldable pub run_taken : Run → Option (List ℕ) → Run
-run_taken r none = r
-run_taken r (some l) = run_after r l
+run_taken r None = r
+run_taken r (Some l) = run_after r l
 
-unfoldable pub next_answer : Run → List ℕ → ℕ → Printed
-next_answer r rest room =
-    record {
-      answer = answered (next_tests r rest room);
-      count = cond (is_some (taken r rest room)) (printed_size r.plan.actuators) 0;
-      run = run_taken r (taken r rest room);
-    }
+-- how many bytes are printed, and the run afterwards
+unfoldable pub next_answer : Run → List ℕ → ℕ → Result ℕ Refusal
+next_answer r rest room = given (next_tests r rest room) (cond (is_some (taken r rest room)) (printed_size r.plan.actuators) 0)
+
+unfoldable pub next_run : Run → List ℕ → ℕ → Run
+next_run r rest room = run_taken r (taken r rest room)
 
 unfoldable pub place_taken : Run → Option (List ℕ) → List ℕ → List ℕ
-place_taken r none out = out
-place_taken r (some l) out =
+place_taken r None out = out
+place_taken r (Some l) out =
     frame_line r.plan r.system r.single r.frame l ++ drop (printed_size r.plan.actuators) out
 
 unfoldable pub next_place : Run → List ℕ → List ℕ → List ℕ

@@ -1,8 +1,8 @@
 -- Laws of the words of a bin, and of what is heard of them.
+use Rattle.std.specs.Prelude.{Option, Some}
 use mathlib.Core.Path.{◌≡◌, refl, sym, ap, ◌∙◌}
 use mathlib.Core.Bool.{Bool, true, false, cond}
 use mathlib.Core.List.{List}
-use mathlib.Core.Option.{Option, some}
 use Prim.Native.Nat.{ℕ, zero, suc, ◌+◌, ◌-◌, ◌*◌, ◌^◌, ◌≤◌, ◌<◌}
 use native.Mathlib.Omega.{arith}
 use native.Mathlib.Nat.{zero-add, mul-le-mul_right}
@@ -19,10 +19,10 @@ use Rattle.mailbox.specs.Code.{word_from, heard_of}
 -- ---- a word of a bin
 
 module _ (s : List ℕ) (at : ℕ) where
-  pub word_first : {w r : ℕ} → w ≡ 0 → r ≡ be counter_size s at → word_from s w at ≡ some r
+  pub word_first : {w r : ℕ} → w ≡ 0 → r ≡ be counter_size s at → word_from s w at ≡ Some r
   word_first e h = rw e (counter_from-read s at h)
 
-  pub word-later : (w : ℕ) {d r : ℕ} → (w ≡ 0 → ⊥) → d ≡ cell_at (w - 1) → r ≡ be pattern_size s (at + d) → word_from s w at ≡ some r
+  pub word-later : (w : ℕ) {d r : ℕ} → (w ≡ 0 → ⊥) → d ≡ cell_at (w - 1) → r ≡ be pattern_size s (at + d) → word_from s w at ≡ Some r
   word-later zero n e h = absurd (n refl)
   word-later (suc c) {d} n e h = let f : d ≡ cell_at c = omega arith in cell_from-read s at c (h ∙ rw f)
 
@@ -30,10 +30,10 @@ module _ (s : List ℕ) (at : ℕ) where
 
 -- of a bad node, and of a good one, by a test of its bit
 module _ (fault : Option ℕ) (w : ℕ) {b bad : Bool} (e : b ≡ bad) where
-  pub heard-bad : {o : Option ℕ} → b ≡ true → fault ≡ o → cond bad fault (some w) ≡ o
+  pub heard-bad : {o : Option ℕ} → b ≡ true → fault ≡ o → cond bad fault (Some w) ≡ o
   heard-bad t q = rw (sym e ∙ t) q
 
-  pub heard-good : b ≡ false → cond bad fault (some w) ≡ some w
+  pub heard-good : b ≡ false → cond bad fault (Some w) ≡ Some w
   heard-good t = rw (sym e ∙ t)
 
 -- where every bit is set, what the bins of a mailbox say

@@ -1,6 +1,5 @@
 // The message of one node and its vote, for callers that know the plan to be accepted and the lengths to be right.
-ghost use Rattle.std.specs.Prelude.{◌≡◌, true, cond, ℕ, ◌+◌, ◌*◌, ◌<◌, ◌≤◌, length, get_or};
-ghost use Rattle.std.proofs.Math.Option.{some};
+ghost use Rattle.std.specs.Prelude.{◌≡◌, true, cond, ℕ, ◌+◌, ◌*◌, ◌<◌, ◌≤◌, length, get_or, Some};
 ghost use Rattle.array.specs.Bit.{bit};
 ghost use Rattle.plan.specs.Limits.{most_nodes, most_frames, most_cells};
 ghost use Rattle.plan.specs.Accepted.{accepted};
@@ -21,33 +20,17 @@ fn sent(voted: bool, cell: u64) -> u64
     if voted { cell } else { 0 }
 }
 
-// A message of what is lent of a plan: its contract speaks for every plan that has these votes and numbers.
-pub fn message_with(
-    voted: &[bool; Plan::VOTES],
-    frames: usize,
-    cells: usize,
-    memory: Memory,
-    out: &mut [u8],
-)
-    requires { (0 < frames) × (frames ≤ most_frames) × (cells ≤ most_cells) × (length out.old ≡ cell_at cells) }
-    ensures { (p : Plan) → p.voted ≡ voted.now → p.frames ≡ frames → p.cells ≡ cells → out.new ≡ message_of p memory }
+pub fn message(plan: &Plan, memory: &Memory, out: &mut [u8])
+    requires { (accepted plan.now ≡ true) × (length out.old ≡ message_size plan.now) }
+    ensures { out.new ≡ message_of plan.now memory.now }
 {
     let counter = memory.counter;
-    let g = memory::step::frame_before(counter, frames);
+    let g = memory::step::frame_before(counter, plan.frames);
     array::step::write_be2(out, 0, counter);
-    let mut c: usize = 0;
-    while c < cells {
-        let x = sent(plan::step::is_voted(voted, g, c), memory.cells[c]);
+    for c in 0..plan.cells {
+        let x = sent(plan::step::is_voted(&plan.voted, g, c), memory.cells[c]);
         array::step::write_be8(out, memory::step::cell_at(c), x);
-        c += 1;
     }
-}
-
-pub fn message(plan: Plan, memory: Memory, out: &mut [u8])
-    requires { (accepted plan ≡ true) × (length out.old ≡ message_size plan) }
-    ensures { out.new ≡ message_of plan memory }
-{
-    message_with(&plan.voted, plan.frames, plan.cells, memory, out);
 }
 
 // ---- bins
@@ -55,7 +38,7 @@ pub fn message(plan: Plan, memory: Memory, out: &mut [u8])
 // What the bin that starts at a place says of a word.
 fn bin_word(bytes: &[u8], at: usize, w: usize) -> u64
     requires { (w ≤ most_cells) × (at + cell_at w ≤ length bytes.now) }
-    ensures { word_from bytes.now w at ≡ some result }
+    ensures { word_from bytes.now w at ≡ Some result }
 {
     if w == 0 {
         return array::step::read_be2(bytes, at) as u64;
@@ -78,14 +61,12 @@ pub fn heard(
     ensures { Packs (heard_of mask (λ j. word_from bytes.now w (at + j * apart)) (λ j. get_or words.now j 0)) nodes result.words result.count }
 {
     let mut all = [0u64; Plan::NODES];
-    let mut j: usize = 0;
-    while j < nodes {
+    for j in 0..nodes {
         if array::step::is_set(mask, j) {
             all[j] = bin_word(bytes, at + j * apart, w);
         } else {
             all[j] = words[j];
         }
-        j += 1;
     }
     Words {
         words: all,
@@ -115,54 +96,30 @@ fn words_in(mailbox: &[u8], nodes: usize, cells: usize, w: usize) -> Words
 
 // ---- the vote
 
-// A vote by what is lent of a plan; `width` is how many cells it has.
-pub fn vote_with(
-    voted: &[bool; Plan::VOTES],
-    nodes: usize,
-    frames: usize,
-    width: usize,
-    memory: Memory,
-    mailbox: &[u8],
-) -> Vote
-    requires { (nodes ≤ most_nodes) × (0 < frames) × (frames ≤ most_frames) × (width ≤ most_cells) × (length mailbox.now ≡ nodes * bin_bytes width) }
-    ensures { (p : Plan) → p.voted ≡ voted.now → p.nodes ≡ nodes → p.frames ≡ frames → p.cells ≡ width → (result.memory ≡ voted_of p memory mailbox.now) × (result.agreement ≡ vote_agreement p memory mailbox.now) }
+pub fn vote(plan: &Plan, memory: &Memory, mailbox: &[u8]) -> Vote
+    requires { (accepted plan.now ≡ true) × (length mailbox.now ≡ mailbox_size plan.now) }
+    ensures { (result.memory ≡ voted_of plan.now memory.now mailbox.now) × (result.agreement ≡ vote_agreement plan.now memory.now mailbox.now) }
 {
+    let nodes = plan.nodes;
+    let frames = plan.frames;
+    let width = plan.cells;
     let bins = words_in(mailbox, nodes, width, 0);
     let decided = ballot::step::majority(&bins.words, bins.count, nodes);
     let counter = ballot::step::or_own(frames, memory.counter, decided);
     let mut agreement = ballot::step::agreement(&bins.words, bins.count, decided);
     let frame = memory::step::frame_before(counter, frames);
     let mut cells = memory.cells;
-    let mut c: usize = 0;
-    while c < width {
-        if plan::step::is_voted(voted, frame, c) {
+    for c in 0..width {
+        if plan::step::is_voted(&plan.voted, frame, c) {
             let values = words_in(mailbox, nodes, width, c + 1);
             let v = ballot::step::majority(&values.words, values.count, nodes);
-            cells[c] = ballot::step::or_old(v, cells[c]);
-            agreement = ballot::step::min(
-                agreement,
-                ballot::step::agreement(&values.words, values.count, v),
-            );
+            cells[c] = v.unwrap_or(cells[c]);
+            agreement = agreement.min(ballot::step::agreement(&values.words, values.count, v));
         }
-        c += 1;
     }
     let after = Memory { counter, cells };
     Vote {
         memory: after,
         agreement,
     }
-}
-
-pub fn vote(plan: Plan, memory: Memory, mailbox: &[u8]) -> Vote
-    requires { (accepted plan ≡ true) × (length mailbox.now ≡ mailbox_size plan) }
-    ensures { (result.memory ≡ voted_of plan memory mailbox.now) × (result.agreement ≡ vote_agreement plan memory mailbox.now) }
-{
-    vote_with(
-        &plan.voted,
-        plan.nodes,
-        plan.frames,
-        plan.cells,
-        memory,
-        mailbox,
-    )
 }

@@ -1,9 +1,9 @@
 -- Laws of a node's agreement: above 0 exactly where its counter and each cell voted in g' had a value, then above half; and at least as many as hold what
 -- one memory sends, where these are more than half.
+use Rattle.std.specs.Prelude.{Option, Some}
 use mathlib.Core.Path.{◌≡◌, sym, ap, ◌∙◌}
 use mathlib.Core.Bool.{true}
 use mathlib.Core.List.{List}
-use mathlib.Core.Option.{Option, some}
 use Prim.Native.Nat.{ℕ, ◌*◌, ◌≤◌, ◌<◌}
 use native.Mathlib.Omega.{arith}
 use lib.ListN.{get_or}
@@ -23,8 +23,8 @@ module _ (p : Plan) (m : Memory) (box : List ℕ) where
 
   -- counter and voted cells had a value
   pub record Valued : Type 0 where
-    pub counter : (x : ℕ) × (majority (counter_in p box) p.nodes ≡ some x)
-    pub cell : (c : ℕ) → c < p.cells → voted_in p frame c ≡ true → (x : ℕ) × (majority (cell_in p box c) p.nodes ≡ some x)
+    pub counter : (x : ℕ) × (majority (counter_in p box) p.nodes ≡ Some x)
+    pub cell : (c : ℕ) → c < p.cells → voted_in p frame c ≡ true → (x : ℕ) × (majority (cell_in p box c) p.nodes ≡ Some x)
 
   pub agreement-valued : 0 < vote_agreement p m box → Valued
   unfolding vote_agreement

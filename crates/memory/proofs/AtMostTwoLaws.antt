@@ -1,10 +1,9 @@
 -- Request 2026-04: the vote of a node of one, or of two. A voted value is in every bin, in its own too, so its vote puts nothing right: the memory stays as it is.
+use Rattle.std.specs.Prelude.{Option, None, Some, unwrap_or}
 use mathlib.Core.Path.{◌≡◌, refl, sym, ap, ◌∙◌}
 use mathlib.Core.Bool.{true}
 use mathlib.Core.List.{List}
 use mathlib.Core.Logic.{◌⊎◌}
-use mathlib.Core.Option
-use mathlib.Core.Option.{Option, none, some}
 use Prim.Native.Nat.{ℕ, ◌≤◌, ◌<◌}
 use lib.Dec.{ltb}
 use lib.ListN.{length, get_or}
@@ -23,23 +22,23 @@ use Rattle.memory.proofs.VoteLaws.{vote-length, vote-past, vote-cell, vote-kept}
 -- node i, whose own bin says what its memory m does
 module _
     (p : Plan) (two : p.nodes ≤ 2) (m : Memory) (box : List ℕ) (i : ℕ) (l : i < p.nodes)
-    (own : counter_in p box i ≡ some m.counter)
+    (own : counter_in p box i ≡ Some m.counter)
   where
     -- a voted value is that of its own bin
-    own_value : (bin : ℕ → Option ℕ) (w v : ℕ) → bin i ≡ some w → majority bin p.nodes ≡ some v → v ≡ w
-    own_value bin w v e q = let s : some v ≡ some w = sym (majority-all bin p.nodes two v q i l) ∙ e in cc
+    own_value : (bin : ℕ → Option ℕ) (w v : ℕ) → bin i ≡ Some w → majority bin p.nodes ≡ Some v → v ≡ w
+    own_value bin w v e q = let s : Some v ≡ Some w = sym (majority-all bin p.nodes two v q i l) ∙ e in cc
 
     pub vote-counter-own : (voted p m box).counter ≡ m.counter
     unfolding voted voted_counter or_own
     vote-counter-own = by (majority (counter_in p box) p.nodes) refl
       where
         by : (o : Option ℕ) → majority (counter_in p box) p.nodes ≡ o → or_own p.frames m.counter o ≡ m.counter
-        by none e = refl
-        by (some v) e = rw (own_value (counter_in p box) m.counter v own e) (split (ltb m.counter p.frames) (λ t. rw t) (λ t. rw t))
+        by None e = refl
+        by (Some v) e = rw (own_value (counter_in p box) m.counter v own e) (split (ltb m.counter p.frames) (λ t. rw t) (λ t. rw t))
 
     module _
         (size : p.cells ≤ length m.cells)
-        (owns : (c : ℕ) → c < p.cells → voted_in p (before p m.counter) c ≡ true → cell_in p box c i ≡ some (get_or m.cells c 0))
+        (owns : (c : ℕ) → c < p.cells → voted_in p (before p m.counter) c ≡ true → cell_in p box c i ≡ Some (get_or m.cells c 0))
       where
         frame : before p (voted p m box).counter ≡ before p m.counter
         frame = ap (before p) vote-counter-own
@@ -48,9 +47,9 @@ module _
         unfolding voted_cell
         taken c k v = rw v (by (majority (cell_in p box c) p.nodes) refl)
           where
-            by : (o : Option ℕ) → majority (cell_in p box c) p.nodes ≡ o → Option.get_or o (get_or m.cells c 0) ≡ get_or m.cells c 0
-            by none e = refl
-            by (some x) e = own_value (cell_in p box c) (get_or m.cells c 0) x (owns c k v) e
+            by : (o : Option ℕ) → majority (cell_in p box c) p.nodes ≡ o → unwrap_or o (get_or m.cells c 0) ≡ get_or m.cells c 0
+            by None e = refl
+            by (Some x) e = own_value (cell_in p box c) (get_or m.cells c 0) x (owns c k v) e
 
         cell-own : (c : ℕ) → c < p.cells → get_or (voted p m box).cells c 0 ≡ get_or m.cells c 0
         cell-own c k =

@@ -1,9 +1,9 @@
 -- Laws of messages and bins: the size of a bin, that a bin made of a message gives back the sender's counter and sent cells, and that what a bin
 -- says is in its own bytes. Only the laws of bin_of, counter_from and cell_from know what a bin is.
+use Rattle.std.specs.Prelude.{Some}
 use mathlib.Core.Path.{◌≡◌, ap, ◌∙◌, subst}
 use mathlib.Core.Bool.{true}
 use mathlib.Core.List.{List, [], append-nil}
-use mathlib.Core.Option.{some}
 use Prim.Native.Nat.{ℕ, ◌+◌, ◌*◌, ◌^◌, ◌<◌}
 use native.Mathlib.Omega.{arith}
 use native.Mathlib.Nat.{add-zero, zero-add}
@@ -56,14 +56,14 @@ module _ (p : Plan) (m : Memory) where
   unfolding bin_of
   bin-length = message-length p m
 
-  pub counter_from-message : m.counter < 2 ^ 16 → counter_from (bin_of (message_of p m)) 0 ≡ some m.counter
+  pub counter_from-message : m.counter < 2 ^ 16 → counter_from (bin_of (message_of p m)) 0 ≡ Some m.counter
   unfolding counter_from bin_of message_of
-  counter_from-message h = ap some (be-of-bytes counter_size _ _ _ h (holds-left (bytes counter_size m.counter) _ (itself (message_of p m))))
+  counter_from-message h = ap Some (be-of-bytes counter_size _ _ _ h (holds-left (bytes counter_size m.counter) _ (itself (message_of p m))))
 
-  pub cell_from-message : (c : ℕ) → c < p.cells → get_or m.cells c 0 < 2 ^ 64 → cell_from (bin_of (message_of p m)) c 0 ≡ some (sent_cell p m c)
+  pub cell_from-message : (c : ℕ) → c < p.cells → get_or m.cells c 0 < 2 ^ 64 → cell_from (bin_of (message_of p m)) c 0 ≡ Some (sent_cell p m c)
   unfolding cell_from bin_of message_of
   cell_from-message c l h =
-      ap some
+      ap Some
       (be-of-bytes pattern_size _ _ _ (sent_cell-bound p m c h)
       (subst (λ (at : ℕ). Holds (message_of p m) at (sent_bytes p m c)) place
       (holds-within (holds-right (bytes counter_size m.counter) _ (itself (message_of p m)))
@@ -74,11 +74,11 @@ module _ (p : Plan) (m : Memory) where
 
 -- ---- what a bin says, read off its bytes
 
-pub counter_from-read : (s : List ℕ) (at : ℕ) {r : ℕ} → r ≡ be counter_size s at → counter_from s at ≡ some r
+pub counter_from-read : (s : List ℕ) (at : ℕ) {r : ℕ} → r ≡ be counter_size s at → counter_from s at ≡ Some r
 unfolding counter_from
 counter_from-read s at e = rw e
 
-pub cell_from-read : (s : List ℕ) (at c : ℕ) {r : ℕ} → r ≡ be pattern_size s (at + cell_at c) → cell_from s c at ≡ some r
+pub cell_from-read : (s : List ℕ) (at c : ℕ) {r : ℕ} → r ≡ be pattern_size s (at + cell_at c) → cell_from s c at ≡ Some r
 unfolding cell_from
 cell_from-read s at c e = rw e
 
@@ -86,11 +86,11 @@ cell_from-read s at c e = rw e
 
 pub counter_from-part : (cells : ℕ) (s : List ℕ) (at : ℕ) → counter_from s at ≡ counter_from (from 0 s at (bin_bytes cells)) 0
 unfolding counter_from
-counter_from-part cells s at = ap some (rw (add-zero at) at (be-part counter_size s at (bin_bytes cells) 0 (omega arith)))
+counter_from-part cells s at = ap Some (rw (add-zero at) at (be-part counter_size s at (bin_bytes cells) 0 (omega arith)))
 
 pub cell_from-part : (cells : ℕ) (s : List ℕ) (at c : ℕ) → c < cells → cell_from s c at ≡ cell_from (from 0 s at (bin_bytes cells)) c 0
 unfolding cell_from
-cell_from-part cells s at c l = ap some (rw (zero-add (cell_at c)) (be-part pattern_size s at (bin_bytes cells) (cell_at c) (omega arith)))
+cell_from-part cells s at c l = ap Some (rw (zero-add (cell_at c)) (be-part pattern_size s at (bin_bytes cells) (cell_at c) (omega arith)))
 
 -- ---- bins of one size in a mailbox
 

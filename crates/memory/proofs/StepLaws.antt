@@ -1,9 +1,8 @@
 -- Laws for the proofs of `step`: one law for a loop's start, and one for each way through its body.
+use Rattle.std.specs.Prelude.{Option, unwrap_or}
 use mathlib.Core.Path.{◌≡◌, refl, sym, ◌∙◌, subst}
 use mathlib.Core.Bool.{Bool, true, false, cond}
 use mathlib.Core.List.{List, [], ◌++◌, append_assoc, append-nil}
-use mathlib.Core.Option
-use mathlib.Core.Option.{Option}
 use Prim.Native.Nat.{ℕ, zero, suc, ◌+◌, ◌-◌, ◌*◌, ◌%◌, ◌≤◌, ◌<◌, min}
 use native.Mathlib.Omega.{arith}
 use native.Mathlib.Nat.{mul-le-mul_right, suc-mul}
@@ -146,7 +145,7 @@ bin-ends {n} {len} j size l e =
 -- what cell c becomes where the frame voted in is g
 unfoldable pub cell_after : Plan → List ℕ → List ℕ → ℕ → ℕ → ℕ
 cell_after p cells box g c =
-    cond (voted_in p g c) (Option.get_or (majority (cell_in p box c) p.nodes) (get_or cells c 0)) (get_or cells c 0)
+    cond (voted_in p g c) (unwrap_or (majority (cell_in p box c) p.nodes) (get_or cells c 0)) (get_or cells c 0)
 
 -- the values read are what the bins say
 module _ (p : Plan) (box : List ℕ) where
@@ -165,7 +164,7 @@ module _ (p : Plan) (box : List ℕ) where
       get_or p.voted (most_cells * g + c) false ≡ true →
       Packs (λ j. cell_from box c (j * bin_size p)) p.nodes values n →
       o ≡ majority (packed values n) p.nodes →
-      r ≡ Option.get_or o (get_or now c 0) →
+      r ≡ unwrap_or o (get_or now c 0) →
       set now c r ≡ fill (cell_after p cells box g) (c + 1) cells
   unfolding cell_after cell_in voted_in
   cell-voted cells g c values n v t h k =
@@ -230,42 +229,3 @@ unfolding voted before cell_after voted_cell
 memory-voted p m box {counter} {g} {cells} e h k =
     let same : cells ≡ fill (voted_cell p m box (before p (voted_counter p m box))) p.cells m.cells = k ∙ rw (h, e) in
     λ i. record { counter = e i; cells = same i }
-
--- ---- what is lent of a plan says what the plan says
-
--- a plan with the numbers and tables that a step is lent; the rest is empty
-abbrev pub lent : (nodes frames cells actuators : ℕ) (voted : List Bool) (table : List ℕ) → Plan
-lent nodes frames cells actuators voted table =
-    record {
-      nodes = nodes;
-      frames = frames;
-      cells = cells;
-      sensors = 0;
-      actuators = actuators;
-      initial = [];
-      task_count = 0;
-      tasks = [];
-      voted = voted;
-      actuator_cell = table;
-    }
-
-module _ (p : Plan) (m : Memory) {votes : List Bool} {frames cells : ℕ} (v : p.voted ≡ votes) (f : p.frames ≡ frames) (c : p.cells ≡ cells) where
-  pub message-lent : message_of (lent 0 frames cells 0 votes []) m ≡ message_of p m
-  unfolding message_of sent_cell before voted_in
-  message-lent = rw (← v, ← f, ← c)
-
-  pub voted-lent : {nodes : ℕ} (box : List ℕ) → p.nodes ≡ nodes → voted (lent nodes frames cells 0 votes []) m box ≡ voted p m box
-  unfolding voted voted_counter voted_cell counter_in cell_in before voted_in
-  voted-lent box n = rw (← v, ← f, ← c, ← n)
-
-  pub agreement-lent : {nodes : ℕ} (box : List ℕ) → p.nodes ≡ nodes → vote_agreement (lent nodes frames cells 0 votes []) m box ≡ vote_agreement p m box
-  unfolding vote_agreement voted_counter counter_in cell_in before voted_in
-  agreement-lent box n = rw (← v, ← f, ← c, ← n)
-
-pub setpoint-lent :
-    (p : Plan) (m : Memory) {table cells : List ℕ} →
-    p.actuator_cell ≡ table →
-    m.cells ≡ cells →
-    (n : ℕ) (out : List ℕ) → fill (λ i. get_or cells (get_or table i 0) 0) n out ≡ fill (setpoint p m) n out
-unfolding setpoint
-setpoint-lent p m t c n out = rw (← t, ← c)

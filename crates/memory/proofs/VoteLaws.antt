@@ -1,9 +1,9 @@
 -- Laws of the vote: what more than half of the bins say is taken, and nothing else changes.
+use Rattle.std.specs.Prelude.{Some}
 use mathlib.Core.Path.{◌≡◌, sym, ap, ◌∙◌}
 use mathlib.Core.Bool.{Bool, true, false}
 use mathlib.Core.List.{List, []}
 use mathlib.Core.Logic.{◌⊎◌, inl, inr, ⊎_elim}
-use mathlib.Core.Option.{some}
 use Prim.Native.Nat.{ℕ, ◌+◌, ◌-◌, ◌*◌, ◌%◌, ◌≤◌, ◌<◌}
 use native.Mathlib.Omega.{arith}
 use native.Mathlib.Nat.{mod-eq_of_lt, mod-lt, mod-add-mod, add-mod_right}
@@ -106,13 +106,13 @@ module _
     abbrev box : List ℕ
     box = joined f p.nodes
 
-    works-counter : (j : ℕ) → j < p.nodes → work j ≡ true → counter_in p box j ≡ some s.counter
+    works-counter : (j : ℕ) → j < p.nodes → work j ≡ true → counter_in p box j ≡ Some s.counter
     works-counter j l w =
         counter_in-bin p f p.nodes sizes j l ∙ rw (sends j l w) (counter_from-message p s (omega (arith, shape.frames-le)))
 
     works-cell :
         (c : ℕ) → c < p.cells → voted_in p (before p s.counter) c ≡ true →
-        (j : ℕ) → j < p.nodes → work j ≡ true → cell_in p box c j ≡ some (get_or s.cells c 0)
+        (j : ℕ) → j < p.nodes → work j ≡ true → cell_in p box c j ≡ Some (get_or s.cells c 0)
     works-cell c cl v j l w =
         cell_in-bin p f p.nodes sizes j l c cl
         ∙ rw (sends j l w, cell_from-message p s c cl (bounded c), sent_cell-voted p s c v)

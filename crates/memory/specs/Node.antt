@@ -1,7 +1,5 @@
 -- Document 01, 'Memory and frame': one node's memory through power-on, compute, broadcast, vote and sync.
-use Rattle.std.specs.Prelude.{cond, List, ◌++◌, ℕ, ◌+◌, ◌-◌, ◌%◌, get_or, replicate}
-use Rattle.std.proofs.Math.Option
-use Rattle.std.proofs.Math.Option.{Option, some}
+use Rattle.std.specs.Prelude.{cond, List, ◌++◌, ℕ, ◌+◌, ◌-◌, ◌%◌, get_or, replicate, Option, Some, unwrap_or}
 use Rattle.array.specs.Index.{fill, joined, lesser, least}
 use Rattle.array.specs.Word.{be, bytes}
 use Rattle.plan.specs.declared.Plan.{Plan}
@@ -49,10 +47,10 @@ not_sent cells = replicate (bin_bytes cells) 0
 
 -- what the bin that starts at a place of some bytes says of the counter, and of cell c
 unfoldable pub counter_from : List ℕ → ℕ → Option ℕ
-counter_from s at = some (be counter_size s at)
+counter_from s at = Some (be counter_size s at)
 
 unfoldable pub cell_from : List ℕ → ℕ → ℕ → Option ℕ
-cell_from s c at = some (be pattern_size s (at + cell_at c))
+cell_from s c at = Some (be pattern_size s (at + cell_at c))
 
 -- what bin j of a mailbox says
 unfoldable pub counter_in : Plan → List ℕ → ℕ → Option ℕ
@@ -68,7 +66,7 @@ voted_counter p m box = or_own p.frames m.counter (majority (counter_in p box) p
 unfoldable pub voted_cell : Plan → Memory → List ℕ → ℕ → ℕ → ℕ
 voted_cell p m box g c =
     cond (voted_in p g c)
-    (Option.get_or (majority (cell_in p box c) p.nodes) (get_or m.cells c 0))
+    (unwrap_or (majority (cell_in p box c) p.nodes) (get_or m.cells c 0))
     (get_or m.cells c 0)
 
 -- "Let g' be the frame before the resulting counter."

@@ -4,7 +4,6 @@
 ghost use Rattle.std.specs.Prelude.{◌≡◌};
 ghost use Rattle.memory.specs.Node.{zero_memory};
 
-use answer::Answer;
 use plan::Plan;
 
 pub mod step;
@@ -16,24 +15,9 @@ pub struct Memory {
     pub cells: [u64; Plan::CELLS],
 }
 
-// What a call on a memory gives.
-#[derive(Clone, Copy)]
-pub struct Outcome {
-    pub answer: Answer,
-    pub memory: Memory,
-}
-
 // What a vote leaves: the memory, and the vote's agreement.
 #[derive(Clone, Copy)]
 pub struct Vote {
-    pub memory: Memory,
-    pub agreement: usize,
-}
-
-// What a vote call gives.
-#[derive(Clone, Copy)]
-pub struct VoteOutcome {
-    pub answer: Answer,
     pub memory: Memory,
     pub agreement: usize,
 }

@@ -9,18 +9,18 @@ ghost use Rattle.memory.specs.Node.{powered_on, computed, setpoint};
 use super::Memory;
 use plan::Plan;
 
-pub fn power_on(plan: Plan) -> Memory
-    requires { accepted plan ≡ true }
-    ensures { result ≡ powered_on plan }
+pub fn power_on(plan: &Plan) -> Memory
+    requires { accepted plan.now ≡ true }
+    ensures { result ≡ powered_on plan.now }
 {
     let cells = plan.initial;
     Memory { counter: 0, cells }
 }
 
 // The tasks stand by frame, so the first of a later one ends the scan.
-pub fn compute(plan: Plan, memory: Memory, sensors: &[u64]) -> Memory
-    requires { (accepted plan ≡ true) × (length sensors.now ≡ plan.sensors) }
-    ensures { result ≡ computed plan sensors.now memory }
+pub fn compute(plan: &Plan, memory: &Memory, sensors: &[u64]) -> Memory
+    requires { (accepted plan.now ≡ true) × (length sensors.now ≡ plan.now.sensors) }
+    ensures { result ≡ computed plan.now sensors.now memory.now }
 {
     let frames = plan.frames;
     let count = plan.task_count;
@@ -28,8 +28,7 @@ pub fn compute(plan: Plan, memory: Memory, sensors: &[u64]) -> Memory
     let g = counter % frames;
     let cams = cam::table();
     let mut cells = memory.cells;
-    let mut k: usize = 0;
-    while k < count {
+    for k in 0..count {
         let frame = plan.tasks[k].frame;
         if g < frame {
             break;
@@ -38,7 +37,6 @@ pub fn compute(plan: Plan, memory: Memory, sensors: &[u64]) -> Memory
             let t = plan.tasks[k];
             task::step::run_task(&mut cells, t, sensors, &cams);
         }
-        k += 1;
     }
     let next = ((g + 1) % frames) as u16;
     Memory {
@@ -90,27 +88,12 @@ pub fn frame_before(counter: u16, frames: usize) -> usize
     (counter as usize + frames - 1) % frames
 }
 
-// The setpoints of a memory's cells, by the cells of the actuators.
-pub fn setpoints_with<'a>(
-    table: &'a [usize; Plan::ACTUATORS],
-    cells: &'a [u64; Plan::CELLS],
-    out: &mut [u64],
-)
-    requires { (length out.old ≤ most_actuators) × ((i : ℕ) → i < length out.old → get_or table.now i 0 < most_cells) }
-    ensures { (p : Plan) (m : Memory) → p.actuator_cell ≡ table.now → m.cells ≡ cells.now → out.new ≡ fill (setpoint p m) (length out.old) out.old }
+pub fn setpoints(plan: &Plan, memory: &Memory, out: &mut [u64])
+    requires { (accepted plan.now ≡ true) × (length out.old ≡ plan.now.actuators) }
+    ensures { out.new ≡ fill (setpoint plan.now memory.now) plan.now.actuators out.old }
 {
-    let count = out.len();
-    let mut i: usize = 0;
-    while i < count {
-        let cell = table[i];
-        out[i] = cells[cell];
-        i += 1;
+    for i in 0..plan.actuators {
+        let cell = plan.actuator_cell[i];
+        out[i] = memory.cells[cell];
     }
-}
-
-pub fn setpoints(plan: Plan, memory: Memory, out: &mut [u64])
-    requires { (accepted plan ≡ true) × (length out.old ≡ plan.actuators) }
-    ensures { out.new ≡ fill (setpoint plan memory) plan.actuators out.old }
-{
-    setpoints_with(&plan.actuator_cell, &memory.cells, out);
 }

@@ -3,104 +3,66 @@
 
 ghost use Rattle.std.specs.Prelude.{◌≡◌, length};
 ghost use Rattle.memory.specs.Size.{message_size};
-ghost use Rattle.node.specs.Answers.{length_checked, power_on_answer, compute_answer, vote_answer, message_place, setpoint_place};
+ghost use Rattle.node.specs.Answers.{length_checked, power_on_answer, compute_memory, vote_answer, vote_memory, message_place, setpoint_place};
 
-use answer::Answer;
-use memory::{Memory, Outcome, VoteOutcome};
+use answer::Refusal;
+use memory::Memory;
 use plan::Plan;
 
-pub fn power_on(plan: Plan) -> Outcome
+pub fn power_on(plan: Plan) -> Result<Memory, Refusal>
     ensures { result ≡ power_on_answer plan }
 {
-    if plan_period::accepted_period(plan) == 0 {
-        let memory = memory::zero_memory();
-        return Outcome {
-            answer: Answer::InvalidPlan,
-            memory,
-        };
-    }
-    let memory = memory::step::power_on(plan);
-    Outcome {
-        answer: Answer::Done,
-        memory,
-    }
+    plan_period::recovery_period(plan)?;
+    Ok(memory::step::power_on(&plan))
 }
 
-pub fn compute(plan: Plan, memory: Memory, sensors: &[u64]) -> Outcome
-    ensures { result ≡ compute_answer plan memory sensors.now }
+pub fn compute(plan: Plan, memory: &mut Memory, sensors: &[u64]) -> Result<(), Refusal>
+    ensures { (result ≡ length_checked plan (length sensors.now) plan.sensors) × (memory.new ≡ compute_memory plan memory.old sensors.now) }
 {
-    if plan_period::accepted_period(plan) == 0 {
-        return Outcome {
-            answer: Answer::InvalidPlan,
-            memory,
-        };
-    }
+    plan_period::recovery_period(plan)?;
     let wanted = plan.sensors;
     if sensors.len() != wanted {
-        return Outcome {
-            answer: Answer::WrongLength,
-            memory,
-        };
+        return Err(Refusal::WrongLength);
     }
-    let next = memory::step::compute(plan, memory, sensors);
-    Outcome {
-        answer: Answer::Done,
-        memory: next,
-    }
+    *memory = memory::step::compute(&plan, memory, sensors);
+    Ok(())
 }
 
-pub fn message(plan: Plan, memory: Memory, out: &mut [u8]) -> Answer
+pub fn message(plan: Plan, memory: Memory, out: &mut [u8]) -> Result<(), Refusal>
     ensures { (result ≡ length_checked plan (length out.old) (message_size plan)) × (out.new ≡ message_place plan memory out.old) }
 {
-    if plan_period::accepted_period(plan) == 0 {
-        return Answer::InvalidPlan;
-    }
+    plan_period::recovery_period(plan)?;
     let cells = plan.cells;
     if out.len() != memory::step::message_size(cells) {
-        return Answer::WrongLength;
+        return Err(Refusal::WrongLength);
     }
-    mailbox::step::message(plan, memory, out);
-    Answer::Done
+    mailbox::step::message(&plan, &memory, out);
+    Ok(())
 }
 
-pub fn vote(plan: Plan, memory: Memory, mailbox: &[u8]) -> VoteOutcome
-    ensures { result ≡ vote_answer plan memory mailbox.now }
+// What is given is the vote's agreement.
+pub fn vote(plan: Plan, memory: &mut Memory, mailbox: &[u8]) -> Result<usize, Refusal>
+    ensures { (result ≡ vote_answer plan memory.old mailbox.now) × (memory.new ≡ vote_memory plan memory.old mailbox.now) }
 {
-    if plan_period::accepted_period(plan) == 0 {
-        return VoteOutcome {
-            answer: Answer::InvalidPlan,
-            memory,
-            agreement: 0,
-        };
-    }
+    plan_period::recovery_period(plan)?;
     let nodes = plan.nodes;
     let cells = plan.cells;
     if mailbox.len() != memory::step::bin_at(nodes, cells) {
-        return VoteOutcome {
-            answer: Answer::WrongLength,
-            memory,
-            agreement: 0,
-        };
+        return Err(Refusal::WrongLength);
     }
-    let vote = mailbox::step::vote(plan, memory, mailbox);
-    let next = vote.memory;
-    VoteOutcome {
-        answer: Answer::Done,
-        memory: next,
-        agreement: vote.agreement,
-    }
+    let vote = mailbox::step::vote(&plan, memory, mailbox);
+    *memory = vote.memory;
+    Ok(vote.agreement)
 }
 
-pub fn setpoints(plan: Plan, memory: Memory, out: &mut [u64]) -> Answer
+pub fn setpoints(plan: Plan, memory: Memory, out: &mut [u64]) -> Result<(), Refusal>
     ensures { (result ≡ length_checked plan (length out.old) plan.actuators) × (out.new ≡ setpoint_place plan memory out.old) }
 {
-    if plan_period::accepted_period(plan) == 0 {
-        return Answer::InvalidPlan;
-    }
+    plan_period::recovery_period(plan)?;
     let wanted = plan.actuators;
     if out.len() != wanted {
-        return Answer::WrongLength;
+        return Err(Refusal::WrongLength);
     }
-    memory::step::setpoints(plan, memory, out);
-    Answer::Done
+    memory::step::setpoints(&plan, &memory, out);
+    Ok(())
 }

@@ -2,6 +2,7 @@
 -- refused calls, a node that tells each neighbour something else, and its recovery. Without the premise, or without its R frames, the demand is false. With two controllers (request
 -- 2026-04) a run without faults meets it, and of one in whose second frame a controller is bad the demand is
 -- false; a controller that a fault left in another frame is there for ever.
+use Rattle.std.specs.Prelude.{None, Some, Ok}
 use mathlib.Core.Path.{◌≡◌, refl, sym, ap, ◌∙◌}
 use mathlib.Core.Bool.{Bool, true, false}
 use mathlib.Core.List.{List, [], ◌∷◌, ◌++◌}
@@ -16,9 +17,9 @@ use Rattle.array.specs.Word.{be, bytes}
 use Rattle.array.specs.Bit.{bit}
 use Rattle.array.proofs.TestLaws.{clash, and_both, and-false-right}
 use Rattle.pattern.specs.Pattern.{sum_of}
-use Rattle.answer.specs.declared.Answer.TheVariants.{Done, InvalidPlan, WrongLength, MaskOrCount}
+use Rattle.answer.specs.declared.Refusal.TheVariants.{InvalidPlan, WrongLength, MaskOrCount}
 use Rattle.plan.specs.declared.Op.TheVariants.{Take, Sum}
-use Rattle.answer.specs.Tests.{passed, answered, if_passed}
+use Rattle.answer.specs.Tests.{passed, refused, unless, given, if_passed}
 use Rattle.plan.specs.declared.Plan.{Plan}
 use Rattle.plan.specs.Known.{reads, reads_known, know_task, know_tasks, know_voted, know_frame, known, all_known, period_to, period}
 use Rattle.plan.specs.Tables.{unused_task, voted_in}
@@ -34,7 +35,7 @@ use Rattle.system.specs.Fault.{fault_memory, fault_message, fault_setpoint}
 use Rattle.system.specs.Counts.{count_after, good_after}
 use Rattle.system.specs.Frame.{memory_of, computed_by, heard, mailbox_of, memory_after, put_out, handed_on, system_after, place_after, agreement_by, frame_agreement}
 use Rattle.system.specs.Single.{single_place}
-use Rattle.system.specs.FrameCall.{mask_ok, counts_ok, lengths_ok, frame_tests, frame_answer, frame_place}
+use Rattle.system.specs.FrameCall.{mask_ok, counts_ok, lengths_ok, frame_tests, frame_answer, frame_system, frame_place}
 use Rattle.system.specs.Demand.{Call, call_lengths, call_tests, call_answer, is_frame, next, answers, places, finally, single_next, single_places, single_finally, call_answers, masks, good_in, MostGood, Premise, OnePlan, Tolerated}
 use Rattle.system.specs.Agreement.{agreements}
 use Rattle.at_most_two.specs.AtMostTwo.{all_good, memory_finally, Apart}
@@ -215,11 +216,11 @@ pub mixed-messages : fault_message (sizes_of plan_k) varied 0 1 ≡ fault_messag
 unfolding fault_message varied filled from plan_k plan
 mixed-messages e = omega (arith, ap (λ (l : List ℕ). get_or l 0 0) e)
 
-mixed-calls : call_answers mixed ≡ Done ∷ InvalidPlan ∷ Done ∷ MaskOrCount ∷ Done ∷ WrongLength ∷ Done ∷ Done ∷ Done ∷ []
-unfolding answered call_answers call_answer call_tests call_lengths lengths_ok mask_ok mixed call varied filled plan_k plan_z plan vote_k no_votes
+mixed-calls : call_answers mixed ≡ None ∷ Some InvalidPlan ∷ None ∷ Some MaskOrCount ∷ None ∷ Some WrongLength ∷ None ∷ None ∷ None ∷ []
+unfolding refused call_answers call_answer call_tests call_lengths lengths_ok mask_ok mixed call varied filled plan_k plan_z plan vote_k no_votes
 mixed-calls = rw (plan_k-accepted, plan_z-refused) refl
 
-pub mixed-refusals : answers (power_on plan_k) mixed ≡ Done ∷ InvalidPlan ∷ Done ∷ MaskOrCount ∷ Done ∷ WrongLength ∷ Done ∷ Done ∷ Done ∷ []
+pub mixed-refusals : answers (power_on plan_k) mixed ≡ None ∷ Some InvalidPlan ∷ None ∷ Some MaskOrCount ∷ None ∷ Some WrongLength ∷ None ∷ None ∷ None ∷ []
 mixed-refusals = (demand3 plan_k plan_k-accepted mixed mixed-plan mixed-premise).refusals ∙ mixed-calls
 
 mixed-good : good_in 0 (take (period plan_k) (masks mixed [])) ≡ true
@@ -247,8 +248,8 @@ pub alone : List Call
 alone = call plan_k 1 (set (set silence 37 1) 55 1) 0 (lit< tt) ∷ []
 
 -- plan K's: the last column of the listing
-pub run_k-agreements : agreements (power_on plan_k) run_k ≡ 3 ∷ 2 ∷ 2 ∷ 2 ∷ 3 ∷ 3 ∷ []
-unfolding agreements passed if_passed next frame_answer frame_tests counts_ok mask_ok lengths_ok run_k call filled power_on powered_on system_after memory_after
+pub run_k-agreements : agreements (power_on plan_k) run_k ≡ Ok 3 ∷ Ok 2 ∷ Ok 2 ∷ Ok 2 ∷ Ok 3 ∷ Ok 3 ∷ []
+unfolding agreements given unless refused passed if_passed next frame_answer frame_system frame_tests counts_ok mask_ok lengths_ok run_k call filled power_on powered_on system_after memory_after
     good_after count_after frame_agreement agreement_by vote_agreement agreement lesser least computed_by heard mailbox_of fault_memory fault_message backing computed message_of
     bin_of sent_cell before voted voted_counter voted_cell or_own counter_from cell_from counter_in cell_in majority first_shared shared holders holds run_tasks run_task
     op_value sum_of voted_in how_many fill joined from be bytes bit of_bits to_bits is_nan add plan_k plan vote_k no_votes period period_to all_known known know_frame
@@ -256,8 +257,8 @@ unfolding agreements passed if_passed next frame_answer frame_tests counts_ok ma
 run_k-agreements = rw plan_k-accepted refl
 
 -- the good nodes count, not only those that work: node 1 agrees with 2, node 2 with 3
-pub apart-agreements : agreements (power_on plan_k) apart ≡ 2 ∷ 2 ∷ []
-unfolding agreements passed if_passed next frame_answer frame_tests counts_ok mask_ok lengths_ok apart call silence power_on powered_on system_after memory_after
+pub apart-agreements : agreements (power_on plan_k) apart ≡ Ok 2 ∷ Ok 2 ∷ []
+unfolding agreements given unless refused passed if_passed next frame_answer frame_system frame_tests counts_ok mask_ok lengths_ok apart call silence power_on powered_on system_after memory_after
     good_after count_after frame_agreement agreement_by vote_agreement agreement lesser least computed_by heard mailbox_of fault_memory fault_message backing computed message_of
     bin_of sent_cell before voted voted_counter voted_cell or_own counter_from cell_from counter_in cell_in majority first_shared shared holders holds run_tasks run_task
     op_value sum_of voted_in how_many fill joined from be bytes bit of_bits to_bits is_nan add plan_k plan vote_k no_votes period period_to all_known known know_frame
@@ -265,8 +266,8 @@ unfolding agreements passed if_passed next frame_answer frame_tests counts_ok ma
 apart-agreements = rw plan_k-accepted refl
 
 -- and not the bad ones: node 0 would agree with 2
-pub alone-agreements : agreements (power_on plan_k) alone ≡ 3 ∷ []
-unfolding agreements passed if_passed next frame_answer frame_tests counts_ok mask_ok lengths_ok alone call silence power_on powered_on system_after memory_after
+pub alone-agreements : agreements (power_on plan_k) alone ≡ Ok 3 ∷ []
+unfolding agreements given unless refused passed if_passed next frame_answer frame_system frame_tests counts_ok mask_ok lengths_ok alone call silence power_on powered_on system_after memory_after
     good_after count_after frame_agreement agreement_by vote_agreement agreement lesser least computed_by heard mailbox_of fault_memory fault_message backing computed message_of
     bin_of sent_cell before voted voted_counter voted_cell or_own counter_from cell_from counter_in cell_in majority first_shared shared holders holds run_tasks run_task
     op_value sum_of voted_in how_many fill joined from be bytes bit of_bits to_bits is_nan add plan_k plan vote_k no_votes period period_to all_known known know_frame
@@ -324,7 +325,7 @@ unfolding MostNow good_in early call bit how_many plan_k plan
 early-now = (λ e. lit< tt, (λ e. lit< tt, tt))
 
 early-places : places (power_on plan_k) early ≡ (0 ∷ []) ∷ (9221120237041090560 ∷ []) ∷ []
-unfolding passed if_passed places next frame_answer frame_place frame_tests counts_ok mask_ok lengths_ok early call filled power_on first_handed powered_on system_after place_after handed_on
+unfolding passed if_passed places next frame_system frame_place frame_tests counts_ok mask_ok lengths_ok early call filled power_on first_handed powered_on system_after place_after handed_on
     memory_after good_after count_after put_out computed_by heard mailbox_of fault_memory fault_message fault_setpoint plane none_more most_held backing computed message_of bin_of sent_cell
     before voted voted_counter voted_cell or_own counter_from cell_from counter_in cell_in setpoint majority first_shared shared holders holds run_tasks run_task
     op_value sum_of voted_in how_many fill joined from be bytes bit of_bits to_bits is_nan add plan_k plan vote_k no_votes period period_to all_known known know_frame
@@ -400,7 +401,7 @@ unfolding OnePlan lost_two call
 lost_two-plan = (inl refl, (inl refl, tt))
 
 pub lost_two-places : places (power_on plan_two) lost_two ≡ (0 ∷ []) ∷ (18446744073709551615 ∷ []) ∷ []
-unfolding passed if_passed places next frame_answer frame_place frame_tests counts_ok mask_ok lengths_ok lost_two call filled_two power_on first_handed powered_on system_after place_after
+unfolding passed if_passed places next frame_system frame_place frame_tests counts_ok mask_ok lengths_ok lost_two call filled_two power_on first_handed powered_on system_after place_after
     handed_on memory_after good_after count_after put_out computed_by heard mailbox_of fault_memory fault_message fault_setpoint plane none_more most_held backing computed message_of bin_of
     sent_cell before voted voted_counter voted_cell or_own counter_from cell_from counter_in cell_in setpoint majority first_shared shared holders holds run_tasks run_task
     op_value sum_of voted_in how_many fill joined from be bytes bit of_bits to_bits is_nan add plan_two plan vote_k no_votes period period_to all_known known know_frame
@@ -423,7 +424,7 @@ pub lost_one : List Call
 lost_one = call plan_one 1 silent_one one (lit< tt) ∷ []
 
 lost_one-left : (memory_finally plan_one lost_one 0).counter ≡ 0
-unfolding finally next passed if_passed frame_answer frame_tests counts_ok mask_ok lengths_ok lost_one call silent_one power_on powered_on system_after memory_after fault_memory
+unfolding finally next passed if_passed frame_system frame_tests counts_ok mask_ok lengths_ok lost_one call silent_one power_on powered_on system_after memory_after fault_memory
     good_after count_after fill be bit plan_one plan vote_k no_votes period period_to all_known known know_frame know_voted know_tasks know_task reads_known reads voted_in all_in all_below
 lost_one-left = rw plan_one-accepted refl
 

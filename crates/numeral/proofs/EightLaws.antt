@@ -1,6 +1,6 @@
 -- Eight digits in one word: the test that each byte is a digit, and neighbours joined to the number.
+use Rattle.std.specs.Prelude.{None, Some}
 use Rattle.std.proofs.Common.{◌≡◌, ℕ, zero, suc, ◌+◌, ◌-◌, ◌*◌, ◌/◌, ◌%◌, ◌^◌, ◌<◌, ◌≤◌, Bool, true, false, cond, not, ◌&&◌, eqb, leb, List, get_or, replicate, refl, ap, ◌∙◌, add-zero, pow-suc, arith, lit<, lit≤, eq-eqb, eqb-true, le-leb, leb-true}
-use mathlib.Core.Option.{none, some}
 use lib.Bits.{bit_and, and_block, and_mask, and_zero_r}
 use borrow.Author.Tests.{not-true, not-false}
 use Rattle.array.specs.Index.{all_below}
@@ -285,7 +285,7 @@ module _
       (p q : ℕ) →
       p ≡ bit_and (x * 10 + x / 256) 71777214294589695 →
       q ≡ bit_and (p * 100 + p / 65536) 281470681808895 →
-      some (bit_and (q * 10000 + q / 4294967296) 4294967295) ≡ cond (all_below (λ k. is_digit (get_or d (i + k) 0)) 8) (some (decimal_from d i 8)) none
+      Some (bit_and (q * 10000 + q / 4294967296) 4294967295) ≡ cond (all_below (λ k. is_digit (get_or d (i + k) 0)) 8) (Some (decimal_from d i 8)) None
   eight-some t p q ep eq =
       let h = eight-test t in
-      rw (test-of-are 8 d i h.0) (ap some (eight-number d i h.0 x p q h.1 ep eq))
+      rw (test-of-are 8 d i h.0) (ap Some (eight-number d i h.0 x p q h.1 ep eq))

@@ -1,7 +1,7 @@
 -- What each test of the code says of `numeral_of`.
+use Rattle.std.specs.Prelude.{None, Some}
 use Rattle.std.proofs.Common.{◌≡◌, ℕ, zero, suc, ◌+◌, ◌-◌, ◌*◌, ◌%◌, ◌^◌, ◌<◌, ◌≤◌, Bool, true, false, ◌&&◌, ◌||◌, eqb, ltb, leb, List, length, get_or, refl, ap, ◌∙◌, le_trans, lt_of_lt_of_le, add-zero, add-suc, pow-suc, add-one, arith, lit<, ltb-false, ltb-true, le-ltb, lt-ltb, eq-eqb, ne_eqb, eqb-true, le-leb, leb-false, leb-true}
 use mathlib.Core.Bool.{and-false}
-use mathlib.Core.Option.{none, some}
 use native.Mathlib.Nat.{pow-le-pow_right}
 use borrow.Author.Tests.{lt-leb, eqb-false}
 use Rattle.array.specs.Index.{all_below}
@@ -94,36 +94,36 @@ module _ (d : List ℕ) where
 
   -- ---- what is refused
 
-  numeral-malformed : is_numeral d ≡ false → none ≡ numeral_of d
+  numeral-malformed : is_numeral d ≡ false → None ≡ numeral_of d
   unfolding numeral_of
   numeral-malformed e = rw e
 
-  pub numeral-empty : length d ≡ 0 → none ≡ numeral_of d
+  pub numeral-empty : length d ≡ 0 → None ≡ numeral_of d
   unfolding is_numeral
   numeral-empty e = numeral-malformed (rw e)
 
   -- a zero before others
-  pub numeral-zeros : get_or d 0 0 ≡ 48 → (length d ≡ 1 → ⊥) → none ≡ numeral_of d
+  pub numeral-zeros : get_or d 0 0 ≡ 48 → (length d ≡ 1 → ⊥) → None ≡ numeral_of d
   unfolding is_numeral
   numeral-zeros e n = numeral-malformed (rw (eq-eqb (get_or d 0 0) 48 e, ne_eqb (length d) 1 n, and-false))
 
-  pub numeral-other : (k : ℕ) → k < length d → is_digit (get_or d k 0) ≡ false → none ≡ numeral_of d
+  pub numeral-other : (k : ℕ) → k < length d → is_digit (get_or d k 0) ≡ false → None ≡ numeral_of d
   unfolding is_numeral
   numeral-other k l e = numeral-malformed (rw (all_below-fails (λ i. is_digit (get_or d i 0)) (length d) k l e, and-false))
 
-  numeral-low : (k : ℕ) → k < length d → get_or d k 0 < 48 → none ≡ numeral_of d
+  numeral-low : (k : ℕ) → k < length d → get_or d k 0 < 48 → None ≡ numeral_of d
   numeral-low k l h = numeral-other k l (rw (lt-leb 48 (get_or d k 0) h))
 
   -- too large already at the first k digits
-  pub numeral-large : (k : ℕ) → k ≤ length d → 2 ^ 64 ≤ decimal d k → none ≡ numeral_of d
+  pub numeral-large : (k : ℕ) → k ≤ length d → 2 ^ 64 ≤ decimal d k → None ≡ numeral_of d
   unfolding numeral_of
   numeral-large k l h = rw (le-ltb (decimal d (length d)) (2 ^ 64) (le_trans h (decimal-grows k (length d) l)), and-false)
 
   -- more than twenty digits
-  numeral-long : 20 < length d → 48 < get_or d 0 0 → none ≡ numeral_of d
+  numeral-long : 20 < length d → 48 < get_or d 0 0 → None ≡ numeral_of d
   numeral-long l h = numeral-large 21 l (omega (arith, decimal-power 20 h))
 
-  pub numeral-too-long : 20 < length d → none ≡ numeral_of d
+  pub numeral-too-long : 20 < length d → None ≡ numeral_of d
   numeral-too-long h =
       split (leb 48 (get_or d 0 0))
       (λ q.
@@ -134,7 +134,7 @@ module _ (d : List ℕ) where
 
   -- the test of the first byte: it shows no digit, or a zero before others
   module _ {r : ℕ} (p : 0 < length d) (h : DigitIs (get_or d 0 0) r) where
-    pub first-bad : (ltb 9 r || (eqb r 0 && ltb 1 (length d))) ≡ true → none ≡ numeral_of d
+    pub first-bad : (ltb 9 r || (eqb r 0 && ltb 1 (length d))) ≡ true → None ≡ numeral_of d
     first-bad e =
         split (ltb 9 r)
         (λ t. numeral-other 0 p (digit-no (get_or d 0 0) h (ltb-true 9 r t)))
@@ -165,7 +165,7 @@ module _ (d : List ℕ) where
       (λ t. rw (lt-ltb 0 (length d) p, t, eq-eqb (length d) 1 (z (eqb-true (get_or d 0 0) 48 t)), a))
       (λ t. rw (lt-ltb 0 (length d) p, t, a))
 
-  pub numeral-read : is_numeral d ≡ true → decimal d (length d) < 2 ^ 64 → some (decimal d (length d)) ≡ numeral_of d
+  pub numeral-read : is_numeral d ≡ true → decimal d (length d) < 2 ^ 64 → Some (decimal d (length d)) ≡ numeral_of d
   unfolding numeral_of
   numeral-read e l = rw (e, lt-ltb (decimal d (length d)) (2 ^ 64) l)
 
@@ -178,8 +178,8 @@ module _ (d : List ℕ) where
       (length d ≡ 0 → ⊥) →
       (get_or d 0 0 ≡ 48 → length d ≡ 1) →
       v < 2 ^ 64 →
-      some v ≡ numeral_of d
+      Some v ≡ numeral_of d
   numeral-whole i v e q a n z l =
       let m : v ≡ decimal d (length d) = q ∙ ap (decimal d) e in
       let w : is_numeral d ≡ true = well_formed-all (omega arith) z (rw (← e) a) in
-      ap some m ∙ numeral-read w (rw (← m) l)
+      ap Some m ∙ numeral-read w (rw (← m) l)

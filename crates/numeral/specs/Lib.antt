@@ -1,3 +1,2 @@
 pub mod Numeral
-pub mod Answers
 pub mod Code

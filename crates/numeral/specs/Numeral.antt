@@ -1,6 +1,5 @@
 -- Document 01, 'The plan': "No leading zeros; zero is `0` .. The largest number is 2^64 − 1." What digits show, the blanks before them dropped.
-use Rattle.std.specs.Prelude.{ℕ, zero, suc, ◌+◌, ◌-◌, ◌*◌, ◌^◌, Bool, cond, not, ◌&&◌, ◌||◌, List, length, ◌==◌, nat_le, nat_lt, slice_index}
-use Rattle.std.proofs.Math.Option.{Option, none, some}
+use Rattle.std.specs.Prelude.{ℕ, zero, suc, ◌+◌, ◌-◌, ◌*◌, ◌^◌, Bool, cond, not, ◌&&◌, ◌||◌, List, length, ◌==◌, nat_le, nat_lt, slice_index, Option, None, Some}
 use Rattle.array.specs.Index.{all_below}
 
 abbrev pub is_digit : ℕ → Bool
@@ -19,4 +18,4 @@ is_numeral d =
 
 -- the number that digits show, if they are of the form and it is below 2^64
 unfoldable pub numeral_of : List ℕ → Option ℕ
-numeral_of d = cond (is_numeral d && nat_lt (decimal d (length d)) (2 ^ 64)) (some (decimal d (length d))) none
+numeral_of d = cond (is_numeral d && nat_lt (decimal d (length d)) (2 ^ 64)) (Some (decimal d (length d))) None

@@ -2,10 +2,3 @@
 #![tactic(auto)]
 
 pub mod step;
-
-// What a column shows.
-#[derive(Clone, Copy)]
-pub enum Number {
-    Value(u64),
-    Malformed,
-}

@@ -1,8 +1,8 @@
 -- Digits taken several at a time: what the answer about a part says of the whole.
+use Rattle.std.specs.Prelude.{Option, None, Some}
 use mathlib.Core.Path.{◌≡◌, refl, sym, ap, ◌∙◌}
 use mathlib.Core.Bool.{Bool, true, false, cond, ◌&&◌}
 use mathlib.Core.List.{List}
-use mathlib.Core.Option.{none, some}
 use Prim.Native.Nat.{ℕ, zero, suc, ◌+◌, ◌-◌, ◌*◌, ◌^◌, ◌<◌, ◌≤◌}
 use native.Mathlib.Omega.{arith}
 use native.Mathlib.Nat.{add-zero, add-suc, pow-suc}
@@ -12,29 +12,26 @@ use borrow.Author.Tests.{eqb-true, eqb-false, leb-true, ltb-true, ltb-false}
 use Rattle.array.specs.Index.{all_below}
 use Rattle.array.proofs.TestLaws.{split, and_left, and_right, and_both}
 use Rattle.array.proofs.IndexLaws.{all_below-at, all_below-not}
-use Rattle.numeral.specs.declared.Number.{Number}
-use Rattle.numeral.specs.declared.Number.TheVariants.{Value, Malformed}
-use Rattle.numeral.specs.Answers.{shown}
 use Rattle.numeral.specs.Numeral.{is_digit, decimal, numeral_of}
 use Rattle.numeral.specs.Code.{decimal_from}
 use Rattle.numeral.proofs.NumeralLaws.{decimal-from, numeral-zeros, numeral-other}
 
 -- what the answer about a part tells
-part-some : (t : Bool) (v w : ℕ) → some v ≡ cond t (some w) none → (t ≡ true) × (v ≡ w)
+part-some : (t : Bool) (v w : ℕ) → Some v ≡ cond t (Some w) None → (t ≡ true) × (v ≡ w)
 part-some true v w e = (refl, cc)
 part-some false v w e = absurd (let z : ◌≡◌ {A = ℕ} 0 1 = cc in omega arith)
 
-part_none : (t : Bool) (w : ℕ) → none ≡ cond t (some w) none → t ≡ false
+part_none : (t : Bool) (w : ℕ) → None ≡ cond t (Some w) None → t ≡ false
 part_none true w e = absurd (let z : ◌≡◌ {A = ℕ} 0 1 = cc in omega arith)
 part_none false w e = refl
 
-module _ (d : List ℕ) (i m : ℕ) {r : Number} (e : shown r ≡ cond (all_below (λ k. is_digit (get_or d (i + k) 0)) m) (some (decimal_from d i m)) none) where
-  pub part-value : {v : ℕ} → r ≡ Value v → (all_below (λ k. is_digit (get_or d (i + k) 0)) m ≡ true) × (v ≡ decimal_from d i m)
-  part-value {v} t = part-some (all_below (λ k. is_digit (get_or d (i + k) 0)) m) v (decimal_from d i m) (sym (ap shown t) ∙ e)
+module _ (d : List ℕ) (i m : ℕ) {r : Option ℕ} (e : r ≡ cond (all_below (λ k. is_digit (get_or d (i + k) 0)) m) (Some (decimal_from d i m)) None) where
+  pub part-value : {v : ℕ} → r ≡ Some v → (all_below (λ k. is_digit (get_or d (i + k) 0)) m ≡ true) × (v ≡ decimal_from d i m)
+  part-value {v} t = part-some (all_below (λ k. is_digit (get_or d (i + k) 0)) m) v (decimal_from d i m) (sym t ∙ e)
 
-  pub part-malformed : r ≡ Malformed → i + m ≤ length d → none ≡ numeral_of d
-  part-malformed t l =
-      let n = all_below-not (λ k. is_digit (get_or d (i + k) 0)) m (part_none (all_below (λ k. is_digit (get_or d (i + k) 0)) m) (decimal_from d i m) (sym (ap shown t) ∙ e)) in
+  pub part-none : r ≡ None → i + m ≤ length d → None ≡ numeral_of d
+  part-none t l =
+      let n = all_below-not (λ k. is_digit (get_or d (i + k) 0)) m (part_none (all_below (λ k. is_digit (get_or d (i + k) 0)) m) (decimal_from d i m) (sym t ∙ e)) in
       numeral-other d (i + n.0) (omega (arith, n.1, l)) n.2
 
 module _ (d : List ℕ) (i : ℕ) where
@@ -77,7 +74,7 @@ decimal-eight d i v e p q = omega (arith, p, q, decimal-from d i 8)
 
 -- the test of eight digits, whether they are the first and begin with a zero
 module _ (d : List ℕ) (i e : ℕ) (a : all_below (λ k. is_digit (get_or d (i + k) 0)) 8 ≡ true) (q : e ≡ decimal_from d i 8) where
-  pub eight-zeros : 8 ≤ length d → (eqb i 0 && ltb e 10000000) ≡ true → none ≡ numeral_of d
+  pub eight-zeros : 8 ≤ length d → (eqb i 0 && ltb e 10000000) ≡ true → None ≡ numeral_of d
   eight-zeros l t =
       let z = eqb-true i 0 (and_left (eqb i 0) (ltb e 10000000) t) in
       let h = ltb-true e 10000000 (and_right (eqb i 0) (ltb e 10000000) t) in

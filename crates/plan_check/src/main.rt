@@ -16,29 +16,25 @@ fn print(text: &[u8], out: &mut [u8]) -> usize
     requires { refusal_size ≤ length out.old }
     ensures { (result ≤ length out.new) × (take result out.new ≡ check_listing text.now) }
 {
-    let mut period: usize = 0;
-    let read = plan_text::step::read(text, &mut period);
-    let refused = read.answer;
-    if refused.number() != 0 {
-        run_line::step::write_refusal(out, refused);
-        return run_line::step::REFUSAL;
+    match plan_text::step::read(text) {
+        Ok(read) => {
+            column_write::step::put(out, 0, PERIOD, read.period as u64);
+            out[PERIOD] = b'\n';
+            PERIOD + 1
+        }
+        Err(refusal) => {
+            run_line::step::write_refusal(out, refusal);
+            run_line::step::REFUSAL
+        }
     }
-    column_write::step::put(out, 0, PERIOD, period as u64);
-    out[PERIOD] = b'\n';
-    PERIOD + 1
-}
-
-// A write that fails is passed over.
-fn print_bytes<R: Print>(rt: &R, bytes: &[u8]) {
-    let mut out = io::writer(rt);
-    let _ = out.write_all(bytes);
 }
 
 fn show<R: Print>(rt: &R, text: &[u8], out: &mut [u8])
     requires { refusal_size ≤ length out.old }
 {
     let size = print(text, out);
-    print_bytes(rt, &out[0..size]);
+    // A write that fails is passed over.
+    let _ = io::writer(rt).write_all(&out[0..size]);
 }
 
 fn main(rt: HostRuntime) {

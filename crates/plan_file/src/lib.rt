@@ -16,6 +16,7 @@ pub fn read_full<R: Read>(input: &mut R, buffer: &mut [u8]) -> usize
     ensures count { result ≤ length buffer.new }
     ensures bytes { Consumes (R.remaining input.old) (R.remaining input.new) (take result buffer.new) }
 {
+    // Each read says how far it came, so nothing counts the reads.
     let mut done: usize = 0;
     while done < buffer.len() {
         let Ok(n) = input.read(&mut buffer[done..]) else {

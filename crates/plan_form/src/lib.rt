@@ -17,14 +17,12 @@ fn tasks_ok(p: Plan) -> bool
     let sensors = p.sensors;
     let count = p.task_count;
     let mut last: usize = 0;
-    let mut k: usize = 0;
-    while k < Plan::TASKS {
+    for k in 0..Plan::TASKS {
         let t = p.tasks[k];
         if !plan_entry::entry_ok(k < count, last, frames, cells, sensors, t) {
             return false;
         }
         last = t.frame;
-        k += 1;
     }
     true
 }
@@ -32,12 +30,10 @@ fn tasks_ok(p: Plan) -> bool
 fn initial_ok(initial: &[u64; Plan::CELLS], cells: usize) -> bool
     ensures { result ≡ all_below (λ c. ltb c cells || eqb (get_or initial.now c 0) 0) most_cells }
 {
-    let mut c: usize = 0;
-    while c < Plan::CELLS {
+    for c in 0..Plan::CELLS {
         if !((c < cells) | (initial[c] == 0)) {
             return false;
         }
-        c += 1;
     }
     true
 }
@@ -47,12 +43,10 @@ fn row_ok(voted: &[bool; Plan::VOTES], frame: usize, from: usize) -> bool
     requires { frame < most_frames }
     ensures { result ≡ all_below (λ c. not (get_or voted.now (vote_place frame c) false) || ltb c from) most_cells }
 {
-    let mut c: usize = from;
-    while c < Plan::CELLS {
+    for c in from..Plan::CELLS {
         if voted[plan::step::vote_place(frame, c)] {
             return false;
         }
-        c += 1;
     }
     true
 }
@@ -60,13 +54,11 @@ fn row_ok(voted: &[bool; Plan::VOTES], frame: usize, from: usize) -> bool
 fn votes_ok(voted: &[bool; Plan::VOTES], frames: usize, cells: usize) -> bool
     ensures { result ≡ all_below (λ g. all_below (λ c. not (get_or voted.now (vote_place g c) false) || (ltb g frames && ltb c cells)) most_cells) most_frames }
 {
-    let mut g: usize = 0;
-    while g < Plan::FRAMES {
+    for g in 0..Plan::FRAMES {
         let from = if g < frames { cells } else { 0 };
         if !row_ok(voted, g, from) {
             return false;
         }
-        g += 1;
     }
     true
 }
@@ -83,12 +75,10 @@ fn actuator_ok(used: bool, cell: usize, cells: usize) -> bool
 fn actuators_ok(table: &[usize; Plan::ACTUATORS], actuators: usize, cells: usize) -> bool
     ensures { result ≡ all_below (λ i. cond (ltb i actuators) (ltb (get_or table.now i 0) cells) (eqb (get_or table.now i 0) 0)) most_actuators }
 {
-    let mut i: usize = 0;
-    while i < Plan::ACTUATORS {
+    for i in 0..Plan::ACTUATORS {
         if !actuator_ok(i < actuators, table[i], cells) {
             return false;
         }
-        i += 1;
     }
     true
 }

@@ -1,8 +1,8 @@
 -- The lines of a text that none of 2 to 5 refuses are those of the record that they mean.
+use Rattle.std.specs.Prelude.{None}
 use mathlib.Core.Path.{◌≡◌, refl, sym, ap, ◌∙◌, subst}
 use mathlib.Core.Bool.{Bool, true, false, cond, ◌&&◌, ◌||◌}
 use mathlib.Core.List.{List, [], ◌∷◌, ◌++◌, append_assoc, append-nil}
-use mathlib.Core.Option.{none}
 use Prim.Native.Nat.{ℕ, zero, suc, ◌+◌, ◌-◌, ◌*◌, ◌^◌, ◌≤◌, ◌<◌}
 use native.Mathlib.Omega.{arith}
 use native.Mathlib.Numerals.{add-one}
@@ -394,7 +394,7 @@ first_read l room =
     (votes-none (third l) (fourth l)) (actuators-none (fourth l)) (kind_of l))
 
 lines-read :
-    (s : List ℕ) (j : ℕ) → first_refusal s (suc j) ≡ none → Read (line_at s 0) (lines_from s (suc j)) (plan_to s (suc j)) (line_at s j) j
+    (s : List ℕ) (j : ℕ) → first_refusal s (suc j) ≡ None → Read (line_at s 0) (lines_from s (suc j)) (plan_to s (suc j)) (line_at s j) j
 unfolding joined plan_to
 lines-read s zero e =
     let o = first-line s 0 1 (omega arith) e in
@@ -485,12 +485,12 @@ read_whole h ls q prev j r o =
     at_last ls q j prev r.stage r.told (eqb-true (kind_of prev) actuator_kind (and_left _ _ o1))
     (eqb-true (second prev + 1) q.actuators (and_right (eqb (kind_of prev) actuator_kind) _ o1))
 
-module _ (s : List ℕ) (ok : length_ok (length s) ≡ true) (none-refused : lines_refusal s ≡ none) where
+module _ (s : List ℕ) (ok : length_ok (length s) ≡ true) (none-refused : lines_refusal s ≡ None) where
   text-whole : Whole (lines_from s (line_count s)) (plan_of s)
   unfolding plan_of
   text-whole =
       let e : line_count s ≡ suc (line_count s - 1) = omega (arith, some-line (length s) ok) in
-      let first : first_refusal s (suc (line_count s - 1)) ≡ none = rw (← e) (lines-first s none-refused) in
+      let first : first_refusal s (suc (line_count s - 1)) ≡ None = rw (← e) (lines-first s none-refused) in
       rw e (read_whole (line_at s 0) (lines_from s (suc (line_count s - 1))) (plan_to s (suc (line_count s - 1))) (line_at s (line_count s - 1)) (line_count s - 1) (lines-read s (line_count s - 1) first) (lines-last s none-refused))
 
   -- the record that a text means is well formed

@@ -1,15 +1,15 @@
 -- Request 2026-04: a text keeps its refusal, or that it is not refused, unless its header has 1 or 2 nodes.
+use Rattle.std.specs.Prelude.{Option, None, Some}
 use mathlib.Core.Path.{◌≡◌, refl, sym, ◌∙◌}
 use mathlib.Core.Bool.{Bool, true, false}
 use mathlib.Core.List.{List}
-use mathlib.Core.Option.{Option, none, some}
 use Prim.Native.Nat.{ℕ, zero, suc, ◌-◌, ◌≤◌, ◌<◌}
 use native.Mathlib.Omega.{arith}
 use lib.Dec.{eqb, leb}
 use lib.ListN.{length}
 use borrow.Author.Tests.{leb-true, leb-false}
 use Rattle.array.proofs.TestLaws.{split, and_right, and-false-right}
-use Rattle.answer.specs.declared.Answer.TheVariants.{Header}
+use Rattle.answer.specs.declared.Refusal.TheVariants.{Header}
 use Rattle.plan.specs.Limits.{least_nodes}
 use Rattle.plan.specs.Earlier.{least_before}
 use Rattle.plan.proofs.EarlierLaws.{kept_test, header-now, header-few, header-before-many, header-kept}
@@ -21,12 +21,12 @@ use Rattle.plan_grammar.proofs.RefusedLaws.{no_answer}
 
 -- ---- only the first line is tested for a header, and the refusals are those by a test that says of it what `is_header` does
 
-module _ (header : List ℕ → Bool) (s : List ℕ) (same : (l : List ℕ) → numbers_at s 0 ≡ some l → is_header l ≡ header l) where
+module _ (header : List ℕ → Bool) (s : List ℕ) (same : (l : List ℕ) → numbers_at s 0 ≡ Some l → is_header l ≡ header l) where
   line-by : (i : ℕ) (o : Option (List ℕ)) → numbers_at s i ≡ o → form_or_rules (line_at s 0) i (line_at s (i - 1)) o ≡ form_or_rules_by header (line_at s 0) i (line_at s (i - 1)) o
   unfolding form_or_rules form_or_rules_by rules_of rules_by
-  line-by i none e = refl
-  line-by zero (some l) e = rw (same l e)
-  line-by (suc j) (some l) e = refl
+  line-by i None e = refl
+  line-by zero (Some l) e = rw (same l e)
+  line-by (suc j) (Some l) e = refl
 
   first_by : (i : ℕ) → first_refusal s i ≡ first_refusal_by header s i
   unfolding first_refusal first_refusal_by line_refusal line_refusal_by
@@ -61,27 +61,27 @@ text-kept s many =
 
 -- ---- those were refused with 3
 
-module _ (s : List ℕ) (ok : length_ok (length s) ≡ true) (l : List ℕ) (e : numbers_at s 0 ≡ some l) (few : second l < least_before) where
+module _ (s : List ℕ) (ok : length_ok (length s) ≡ true) (l : List ℕ) (e : numbers_at s 0 ≡ Some l) (few : second l < least_before) where
   few-not-header : is_header_from least_before l ≡ false
   unfolding is_header_from
   few-not-header = and-false-right (eqb (kind_of l) header_kind) (header-few (second l) (third l) (fourth l) (fifth l) (sixth l) 0 few)
 
-  first-few : (i : ℕ) → first_refusal_by (is_header_from least_before) s (suc i) ≡ some Header
+  first-few : (i : ℕ) → first_refusal_by (is_header_from least_before) s (suc i) ≡ Some Header
   unfolding first_refusal_by line_refusal_by form_or_rules_by rules_by
   first-few zero = rw (e, few-not-header)
   first-few (suc i) = rw (first-few i)
 
-  pub text-few : refusal_before s ≡ some Header
+  pub text-few : refusal_before s ≡ Some Header
   unfolding refusal_from text_refusal_by
   text-few = by (line_count s) refl (some-line (length s) ok)
     where
-      by : (n : ℕ) → line_count s ≡ n → 0 < n → refusal_before s ≡ some Header
+      by : (n : ℕ) → line_count s ≡ n → 0 < n → refusal_before s ≡ Some Header
       by zero q h = absurd (omega arith)
       by (suc i) q h = rw (ok, q, first-few i)
 
 -- ---- a text accepted before is none of those, and is accepted
 
-module _ (s : List ℕ) (e : refusal_before s ≡ none) where
+module _ (s : List ℕ) (e : refusal_before s ≡ None) where
   before-long : length_ok (length s) ≡ true
   unfolding refusal_from text_refusal_by
   before-long = split (length_ok (length s)) (λ t. t) (λ t. no_answer (rw t at e))
@@ -92,5 +92,5 @@ module _ (s : List ℕ) (e : refusal_before s ≡ none) where
       split (leb least_before (second l)) (leb-true least_before (second l))
       (λ f. no_answer (sym (text-few s before-long l q (leb-false least_before (second l) f)) ∙ e))
 
-  pub text-before : text_refusal s ≡ none
+  pub text-before : text_refusal s ≡ None
   text-before = text-kept s text-before-many ∙ e

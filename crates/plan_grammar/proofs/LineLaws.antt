@@ -1,8 +1,8 @@
 -- A text of form is its lines, each written as a row.
+use Rattle.std.specs.Prelude.{Some}
 use mathlib.Core.Path.{◌≡◌, refl, sym, ap, ◌∙◌}
 use mathlib.Core.Bool.{true}
 use mathlib.Core.List.{List, [], ◌∷◌, ◌++◌, append_assoc, append-nil}
-use mathlib.Core.Option.{some}
 use Prim.Native.Nat.{ℕ, zero, suc, ◌+◌, ◌*◌, ◌/◌, ◌%◌, ◌≤◌, ◌<◌}
 use native.Mathlib.Omega.{arith}
 use native.Mathlib.Nat.{zero-add, suc-add}
@@ -63,15 +63,15 @@ pub row-size : (l : List ℕ) → length (row widths l) ≡ line_size
 unfolding total
 row-size l = row-length widths l
 
-pub line_at-is : (s : List ℕ) (i : ℕ) (l : List ℕ) → numbers_at s i ≡ some l → line_at s i ≡ l
+pub line_at-is : (s : List ℕ) (i : ℕ) (l : List ℕ) → numbers_at s i ≡ Some l → line_at s i ≡ l
 unfolding line_at
 line_at-is s i l e = rw e
 
-pub line-room : (s : List ℕ) (i : ℕ) (l : List ℕ) → numbers_at s i ≡ some l → Room widths l
+pub line-room : (s : List ℕ) (i : ℕ) (l : List ℕ) → numbers_at s i ≡ Some l → Room widths l
 unfolding numbers_at
 line-room s i l e = room-of-numbers widths (slice (line_size * i) (line_size * i + line_size) s) l e
 
-pub line_row : (s : List ℕ) (i : ℕ) (l : List ℕ) → numbers_at s i ≡ some l → slice (line_size * i) (line_size * i + line_size) s ≡ row widths l
+pub line_row : (s : List ℕ) (i : ℕ) (l : List ℕ) → numbers_at s i ≡ Some l → slice (line_size * i) (line_size * i + line_size) s ≡ row widths l
 unfolding numbers_at
 line_row s i l e = row-of-numbers widths (slice (line_size * i) (line_size * i + line_size) s) l e
 
@@ -134,7 +134,7 @@ abbrev pub lines_from : List ℕ → ℕ → List (List ℕ)
 lines_from s i = joined (λ k. line_at s k ∷ []) i
 
 pub text-rows :
-    (s : List ℕ) (i : ℕ) → ((k : ℕ) → k < i → numbers_at s k ≡ some (line_at s k)) → take (line_size * i) s ≡ joined (λ k. row widths (line_at s k)) i
+    (s : List ℕ) (i : ℕ) → ((k : ℕ) → k < i → numbers_at s k ≡ Some (line_at s k)) → take (line_size * i) s ≡ joined (λ k. row widths (line_at s k)) i
 unfolding joined
 text-rows s zero f = refl
 text-rows s (suc i) f =
@@ -144,7 +144,7 @@ text-rows s (suc i) f =
 
 -- a text all of whose lines are of the form is its lines, written
 pub text-written :
-    (s : List ℕ) → length_ok (length s) ≡ true → ((k : ℕ) → k < line_count s → numbers_at s k ≡ some (line_at s k)) → written (lines_from s (line_count s)) ≡ s
+    (s : List ℕ) → length_ok (length s) ≡ true → ((k : ℕ) → k < line_count s → numbers_at s k ≡ Some (line_at s k)) → written (lines_from s (line_count s)) ≡ s
 text-written s ok f =
     written-each (line_at s) (line_count s) ∙ sym (text-rows s (line_count s) f)
     ∙ take_all (line_size * line_count s) s (omega (arith, length-lines (length s) ok))
@@ -152,7 +152,7 @@ text-written s ok f =
 -- ---- the lines of a text that was written
 
 module _ (ls : List (List ℕ)) (room : (i : ℕ) → i < length ls → Room widths (get_or ls i [])) where
-  pub written-numbers : (i : ℕ) → i < length ls → numbers_at (written ls) i ≡ some (get_or ls i [])
+  pub written-numbers : (i : ℕ) → i < length ls → numbers_at (written ls) i ≡ Some (get_or ls i [])
   unfolding numbers_at written
   written-numbers i l =
       let h = joined-holds (λ k. row widths (get_or ls k [])) line_size (λ k. row-size (get_or ls k [])) (length ls) i l in

@@ -1,8 +1,8 @@
 -- The text of a well-formed record is refused by none of 1 to 5, and means the record.
+use Rattle.std.specs.Prelude.{None, Some}
 use mathlib.Core.Path.{◌≡◌, refl, sym, ap, subst, ◌∙◌}
 use mathlib.Core.Bool.{Bool, true, false, cond, ◌&&◌, ◌||◌}
 use mathlib.Core.List.{List, [], ◌∷◌, ◌++◌, append_assoc, append-nil}
-use mathlib.Core.Option.{none, some}
 use Prim.Native.Nat.{ℕ, zero, suc, ◌+◌, ◌-◌, ◌*◌, ◌%◌, ◌^◌, ◌≤◌, ◌<◌}
 use native.Mathlib.Omega.{arith}
 use native.Mathlib.Nat.{add-zero, add-suc, not-suc-le-zero}
@@ -163,20 +163,20 @@ module _ (p : Plan) (w : Shape p) where
 -- ---- a text that begins with given lines
 
 abbrev Begins : List ℕ → List (List ℕ) → Type 0
-Begins s ls = (i : ℕ) → i < length ls → numbers_at s i ≡ some (get_or ls i [])
+Begins s ls = (i : ℕ) → i < length ls → numbers_at s i ≡ Some (get_or ls i [])
 
 begins-left : (s : List ℕ) (ks ls ms : List (List ℕ)) → ks ≡ ls ++ ms → Begins s ks → Begins s ls
 begins-left s ks ls ms e b i l =
-    subst (Begins s) e b i (omega (arith, length-append ls ms)) ∙ ap some (get_or-append ls ms [] i l)
+    subst (Begins s) e b i (omega (arith, length-append ls ms)) ∙ ap Some (get_or-append ls ms [] i l)
 
-begins-last : (s : List ℕ) (ls : List (List ℕ)) (l : List ℕ) (n : ℕ) → length ls ≡ n → Begins s (ls ++ (l ∷ [])) → numbers_at s n ≡ some l
-begins-last s ls l n e b = b n (omega (arith, length-append ls (l ∷ []))) ∙ rw (← e) (ap some (get_or-append_seam ls l [] []))
+begins-last : (s : List ℕ) (ls : List (List ℕ)) (l : List ℕ) (n : ℕ) → length ls ≡ n → Begins s (ls ++ (l ∷ [])) → numbers_at s n ≡ Some l
+begins-last s ls l n e b = b n (omega (arith, length-append ls (l ∷ []))) ∙ rw (← e) (ap Some (get_or-append_seam ls l [] []))
 
 -- its lines ls are not refused, and mean q; prev is the last of them, and the next is line j after the header
 record Passed (s : List ℕ) (ls : List (List ℕ)) (q : Plan) (prev : List ℕ) (j : ℕ) : Type 0 where
   pub size : length ls ≡ suc j
   pub plan : plan_to s (suc j) ≡ q
-  pub through : first_refusal s (suc j) ≡ none
+  pub through : first_refusal s (suc j) ≡ None
   pub last : line_at s j ≡ prev
 
 module _ (s h : List ℕ) (first : line_at s 0 ≡ h) (ls : List (List ℕ)) (q : Plan) (prev : List ℕ) (j : ℕ) (l : List ℕ) where
@@ -184,7 +184,7 @@ module _ (s h : List ℕ) (first : line_at s 0 ≡ h) (ls : List (List ℕ)) (q 
       Passed s ls q prev j → Begins s (ls ++ (l ∷ [])) → in_order h j prev l ≡ true → in_range h l ≡ true → Passed s (ls ++ (l ∷ [])) (with_line l q) l (suc j)
   unfolding plan_to first_refusal
   passed-line r b o i =
-      let n : numbers_at s (suc j) ≡ some l = begins-last s ls l (suc j) r.size b in
+      let n : numbers_at s (suc j) ≡ Some l = begins-last s ls l (suc j) r.size b in
       let at : line_at s (suc j) ≡ l = line_at-is s (suc j) l n in
       let o1 : in_order (line_at s 0) j (line_at s j) l ≡ true = rw (first, r.last) o in
       let i1 : in_range (line_at s 0) l ≡ true = rw first i in
@@ -486,7 +486,7 @@ module _ (p : Plan) (wf : well_formed p ≡ true) where
   unfolding plan_text
   text-begins = written-numbers (lines_of p) (λ i l. every-at (Room widths) (lines_of p) i (lines-room p shape) l)
 
-  first-numbers : numbers_at (plan_text p) 0 ≡ some (header_line p)
+  first-numbers : numbers_at (plan_text p) 0 ≡ Some (header_line p)
   unfolding lines_of
   first-numbers = text-begins 0 (omega arith)
 
@@ -521,7 +521,7 @@ module _ (p : Plan) (wf : well_formed p ≡ true) where
       and_both (and_both (lt-ltb 0 (length (plan_text p)) (omega arith)) (le-leb (length (plan_text p)) (line_size * most_text_lines) m)) (eq-eqb (length (plan_text p) % line_size) 0 (omega arith))
 
   -- nor do 2 to 5
-  pub plan_text-lines : lines_refusal (plan_text p) ≡ none
+  pub plan_text-lines : lines_refusal (plan_text p) ≡ None
   plan_text-lines =
       let e : line_count (plan_text p) - 1 ≡ all-passed.j = omega (arith, count-is) in
       lines_none (plan_text p) (rw count-is all-passed.passed.through)

@@ -1,8 +1,6 @@
 -- Document 01, 'The plan': "A text of lines of 57 bytes: six decimal numbers, right-justified in columns of width 4, 4, 4, 4, 20, 20, then a line feed".
 -- A line is a block of 57 bytes; its meaning is its six numbers.
-use Rattle.std.specs.Prelude.{Bool, ◌&&◌, List, [], ◌∷◌, ℕ, ◌+◌, ◌*◌, ◌/◌, leb, length, get_or}
-use Rattle.std.proofs.Math.Option
-use Rattle.std.proofs.Math.Option.{Option}
+use Rattle.std.specs.Prelude.{Bool, ◌&&◌, List, [], ◌∷◌, ℕ, ◌+◌, ◌*◌, ◌/◌, leb, length, get_or, Option, unwrap_or}
 use Rattle.std.proofs.Math.Seq.{slice}
 use Rattle.column.specs.Row.{numbers_shown}
 
@@ -24,7 +22,7 @@ unfoldable pub numbers_at : List ℕ → ℕ → Option (List ℕ)
 numbers_at s i = numbers_shown widths (slice (line_size * i) (line_size * i + line_size) s)
 
 unfoldable pub line_at : List ℕ → ℕ → List ℕ
-line_at s i = Option.get_or (numbers_at s i) []
+line_at s i = unwrap_or (numbers_at s i) []
 
 -- the columns of a line
 abbrev pub kind_of : List ℕ → ℕ

@@ -1,9 +1,8 @@
 -- Document 01, 'Who can cause which refusal', by the plan's author: refusals over the text, with no reader's state. Each rule goes by the header, the
 -- line's number, the line and the line before it.
-use Rattle.std.specs.Prelude.{Bool, false, not, cond, ◌&&◌, ◌||◌, List, ℕ, zero, suc, ◌+◌, ◌-◌, ◌*◌, ◌%◌, eqb, leb, ltb, length}
-use Rattle.std.proofs.Math.Option.{Option, none, some}
-use Rattle.answer.specs.declared.Answer.{Answer}
-use Rattle.answer.specs.declared.Answer.TheVariants.{TextLength, Malformed, Header, OutOfOrder, OutOfRange, Unrecoverable}
+use Rattle.std.specs.Prelude.{Bool, false, not, cond, ◌&&◌, ◌||◌, List, ℕ, zero, suc, ◌+◌, ◌-◌, ◌*◌, ◌%◌, eqb, leb, ltb, length, Option, None, Some}
+use Rattle.answer.specs.declared.Refusal.{Refusal}
+use Rattle.answer.specs.declared.Refusal.TheVariants.{TextLength, Malformed, Header, OutOfOrder, OutOfRange, Unrecoverable}
 use Rattle.plan.specs.Limits.{most_tasks}
 use Rattle.plan.specs.Known.{period}
 use Rattle.plan.specs.Accepted.{header_ok, task_ok}
@@ -91,26 +90,26 @@ in_range h l =
 -- ---- the refusal of a text
 
 -- what refuses line i, whose numbers are l
-unfoldable pub rules_of : List ℕ → ℕ → List ℕ → List ℕ → Option Answer
-rules_of h zero prev l = cond (is_header l) none (some Header)
+unfoldable pub rules_of : List ℕ → ℕ → List ℕ → List ℕ → Option Refusal
+rules_of h zero prev l = cond (is_header l) None (Some Header)
 rules_of h (suc j) prev l =
-    cond (in_order h j prev l) (cond (in_range h l) none (some (OutOfRange (suc j + 1)))) (some (OutOfOrder (suc j + 1)))
+    cond (in_order h j prev l) (cond (in_range h l) None (Some (OutOfRange (suc j + 1)))) (Some (OutOfOrder (suc j + 1)))
 
 -- "In one line 2 comes before 3 (first line only), then 4, then 5."
-unfoldable pub form_or_rules : List ℕ → ℕ → List ℕ → Option (List ℕ) → Option Answer
-form_or_rules h i prev none = some (Malformed (i + 1))
-form_or_rules h i prev (some l) = rules_of h i prev l
+unfoldable pub form_or_rules : List ℕ → ℕ → List ℕ → Option (List ℕ) → Option Refusal
+form_or_rules h i prev None = Some (Malformed (i + 1))
+form_or_rules h i prev (Some l) = rules_of h i prev l
 
-unfoldable pub line_refusal : List ℕ → ℕ → Option Answer
+unfoldable pub line_refusal : List ℕ → ℕ → Option Refusal
 line_refusal s i = form_or_rules (line_at s 0) i (line_at s (i - 1)) (numbers_at s i)
 
-abbrev pub or_refusal : Option Answer → Option Answer → Option Answer
-or_refusal none o = o
-or_refusal (some a) o = some a
+abbrev pub or_refusal : Option Refusal → Option Refusal → Option Refusal
+or_refusal None o = o
+or_refusal (Some a) o = Some a
 
 -- "text, line by line": the refusal of the first of the first i lines that is refused
-unfoldable pub first_refusal : List ℕ → ℕ → Option Answer
-first_refusal s zero = none
+unfoldable pub first_refusal : List ℕ → ℕ → Option Refusal
+first_refusal s zero = None
 first_refusal s (suc i) = or_refusal (first_refusal s i) (line_refusal s i)
 
 -- the last line is that of the last actuator: no cell and no actuator is missing
@@ -118,16 +117,16 @@ unfoldable pub is_last : List ℕ → List ℕ → Bool
 is_last h l = eqb (kind_of l) actuator_kind && eqb (second l + 1) (actuators_in h)
 
 -- "at the end, missing cells or actuators (line: one past the last)"
-unfoldable pub end_refusal : List ℕ → Option Answer
-end_refusal s = cond (is_last (line_at s 0) (line_at s (line_count s - 1))) none (some (OutOfOrder (line_count s + 1)))
+unfoldable pub end_refusal : List ℕ → Option Refusal
+end_refusal s = cond (is_last (line_at s 0) (line_at s (line_count s - 1))) None (Some (OutOfOrder (line_count s + 1)))
 
 -- "6: no R exists. Line 0, after all of 1 to 5."
-unfoldable pub period_refusal : List ℕ → Option Answer
-period_refusal s = cond (eqb (period (plan_of s)) 0) (some Unrecoverable) none
+unfoldable pub period_refusal : List ℕ → Option Refusal
+period_refusal s = cond (eqb (period (plan_of s)) 0) (Some Unrecoverable) None
 
 -- what refuses a text's lines: 2 to 5
-unfoldable pub lines_refusal : List ℕ → Option Answer
+unfoldable pub lines_refusal : List ℕ → Option Refusal
 lines_refusal s = or_refusal (first_refusal s (line_count s)) (end_refusal s)
 
-unfoldable pub text_refusal : List ℕ → Option Answer
-text_refusal s = cond (length_ok (length s)) (or_refusal (lines_refusal s) (period_refusal s)) (some TextLength)
+unfoldable pub text_refusal : List ℕ → Option Refusal
+text_refusal s = cond (length_ok (length s)) (or_refusal (lines_refusal s) (period_refusal s)) (Some TextLength)

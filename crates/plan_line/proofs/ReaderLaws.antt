@@ -1,8 +1,8 @@
 -- What the reader's tests on one line say of the definitions.
-use mathlib.Core.Path.{◌≡◌, refl, sym, ap, ◌∙◌}
+use Rattle.std.specs.Prelude.{Option, None, Some}
+use mathlib.Core.Path.{◌≡◌, refl, sym, ◌∙◌}
 use mathlib.Core.Bool.{true, false, cond, ◌&&◌}
 use mathlib.Core.List.{List, [], ◌∷◌}
-use mathlib.Core.Option.{Option, none, some}
 use Prim.Native.Nat.{ℕ, ◌+◌, ◌-◌, ◌≤◌, ◌<◌}
 use native.Mathlib.Omega.{arith}
 use lib.Dec.{eqb, ltb}
@@ -12,62 +12,58 @@ use borrow.Author.Tests.{eq-eqb, ne_eqb, eqb-true, eqb-false, lt-ltb, le-ltb, lt
 use Rattle.array.proofs.TestLaws.{split}
 use Rattle.column.specs.Column.{number_shown}
 use Rattle.column.specs.Row.{and_then, numbers_from, numbers_shown}
-use Rattle.numeral.specs.declared.Number.{Number}
-use Rattle.numeral.specs.declared.Number.TheVariants.{Malformed}
-use Rattle.numeral.specs.Answers.{shown}
 use Rattle.plan_grammar.specs.Line.{widths}
 
 -- ---- a line's columns
 
-and_none : (x : Option ℕ) → and_then x none ≡ none
-and_none none = refl
-and_none (some v) = refl
+and_none : (x : Option ℕ) → and_then x None ≡ None
+and_none None = refl
+and_none (Some v) = refl
 
 module _ (s : List ℕ) where
   columns :
       numbers_shown widths s
       ≡ and_then (number_shown (slice 0 4 s)) (and_then (number_shown (slice 4 8 s)) (and_then (number_shown (slice 8 12 s)) (and_then (number_shown (slice 12 16 s))
-      (and_then (number_shown (slice 16 36 s)) (and_then (number_shown (slice 36 56 s)) (cond (eqb (length s) 57 && eqb (get_or s 56 0) 10) (some []) none))))))
+      (and_then (number_shown (slice 16 36 s)) (and_then (number_shown (slice 36 56 s)) (cond (eqb (length s) 57 && eqb (get_or s 56 0) 10) (Some []) None))))))
   unfolding numbers_shown numbers_from
   columns = refl
 
   -- a column that shows nothing
-  module _ (r : Number) (told : r ≡ Malformed) where
-    pub bad-1 : shown r ≡ number_shown (slice 0 4 s) → none ≡ numbers_shown widths s
-    bad-1 e = sym (columns ∙ simp (sym e ∙ ap shown told))
+  pub bad-1 : None ≡ number_shown (slice 0 4 s) → None ≡ numbers_shown widths s
+  bad-1 e = sym (columns ∙ simp (sym e))
 
-    pub bad-2 : shown r ≡ number_shown (slice 4 8 s) → none ≡ numbers_shown widths s
-    bad-2 e = sym (columns ∙ simp (sym e ∙ ap shown told, and_none))
+  pub bad-2 : None ≡ number_shown (slice 4 8 s) → None ≡ numbers_shown widths s
+  bad-2 e = sym (columns ∙ simp (sym e, and_none))
 
-    pub bad-3 : shown r ≡ number_shown (slice 8 12 s) → none ≡ numbers_shown widths s
-    bad-3 e = sym (columns ∙ simp (sym e ∙ ap shown told, and_none))
+  pub bad-3 : None ≡ number_shown (slice 8 12 s) → None ≡ numbers_shown widths s
+  bad-3 e = sym (columns ∙ simp (sym e, and_none))
 
-    pub bad-4 : shown r ≡ number_shown (slice 12 16 s) → none ≡ numbers_shown widths s
-    bad-4 e = sym (columns ∙ simp (sym e ∙ ap shown told, and_none))
+  pub bad-4 : None ≡ number_shown (slice 12 16 s) → None ≡ numbers_shown widths s
+  bad-4 e = sym (columns ∙ simp (sym e, and_none))
 
-    pub bad-5 : shown r ≡ number_shown (slice 16 36 s) → none ≡ numbers_shown widths s
-    bad-5 e = sym (columns ∙ simp (sym e ∙ ap shown told, and_none))
+  pub bad-5 : None ≡ number_shown (slice 16 36 s) → None ≡ numbers_shown widths s
+  bad-5 e = sym (columns ∙ simp (sym e, and_none))
 
-    pub bad-6 : shown r ≡ number_shown (slice 36 56 s) → none ≡ numbers_shown widths s
-    bad-6 e = sym (columns ∙ simp (sym e ∙ ap shown told, and_none))
+  pub bad-6 : None ≡ number_shown (slice 36 56 s) → None ≡ numbers_shown widths s
+  bad-6 e = sym (columns ∙ simp (sym e, and_none))
 
-  pub bad-length : (length s ≡ 57 → ⊥) → none ≡ numbers_shown widths s
+  pub bad-length : (length s ≡ 57 → ⊥) → None ≡ numbers_shown widths s
   bad-length n = sym (columns ∙ simp (ne_eqb (length s) 57 n, and_none))
 
-  pub bad-end : length s ≡ 57 → (get_or s 56 0 ≡ 10 → ⊥) → none ≡ numbers_shown widths s
+  pub bad-end : length s ≡ 57 → (get_or s 56 0 ≡ 10 → ⊥) → None ≡ numbers_shown widths s
   bad-end l n = sym (columns ∙ simp (eq-eqb (length s) 57 l, ne_eqb (get_or s 56 0) 10 n, and_none))
 
   pub whole-line :
       length s ≡ 57 →
       get_or s 56 0 ≡ 10 →
       {a b c d e f : ℕ} →
-      some a ≡ number_shown (slice 0 4 s) →
-      some b ≡ number_shown (slice 4 8 s) →
-      some c ≡ number_shown (slice 8 12 s) →
-      some d ≡ number_shown (slice 12 16 s) →
-      some e ≡ number_shown (slice 16 36 s) →
-      some f ≡ number_shown (slice 36 56 s) →
-      some (a ∷ b ∷ c ∷ d ∷ e ∷ f ∷ []) ≡ numbers_shown widths s
+      Some a ≡ number_shown (slice 0 4 s) →
+      Some b ≡ number_shown (slice 4 8 s) →
+      Some c ≡ number_shown (slice 8 12 s) →
+      Some d ≡ number_shown (slice 12 16 s) →
+      Some e ≡ number_shown (slice 16 36 s) →
+      Some f ≡ number_shown (slice 36 56 s) →
+      Some (a ∷ b ∷ c ∷ d ∷ e ∷ f ∷ []) ≡ numbers_shown widths s
   whole-line l n p₁ p₂ p₃ p₄ p₅ p₆ = sym (columns ∙ rw (← p₁, ← p₂, ← p₃, ← p₄, ← p₅, ← p₆, eq-eqb (length s) 57 l, eq-eqb (get_or s 56 0) 10 n))
 
 -- ---- the number after another

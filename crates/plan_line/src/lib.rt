@@ -1,19 +1,62 @@
 // A line's numbers, and the rules on one line.
 #![tactic(auto)]
 
-ghost use Rattle.std.specs.Prelude.{◌≡◌, ◌+◌, eqb, ltb};
+ghost use Rattle.std.specs.Prelude.{◌≡◌, ◌+◌, eqb, ltb, option_map};
 ghost use Rattle.plan.specs.Limits.{most_tasks};
 ghost use Rattle.column.specs.Row.{numbers_shown};
 ghost use Rattle.plan_grammar.specs.Line.{widths, is_task};
 ghost use Rattle.plan_grammar.specs.Meant.{zero_plan, op_of, task_of};
 ghost use Rattle.plan_grammar.specs.Refused.{is_header, after_cells, task_in_order, smaller_vote, vote_in_order, actuator_in_order, in_order, task_zeros, in_range, is_last};
-ghost use Rattle.plan_line.specs.Code.{numbers_in, numbers_read};
+ghost use Rattle.plan_line.specs.Code.{KindOf, kind_number, numbers_in};
 
-use numeral::Number;
 use pattern::WindLaw;
 use plan::{Op, Plan, Task};
 
-// The first four columns are indices, the last two may be patterns.
+// The kinds of lines: a line's first number says its kind.
+#[derive(Clone, Copy, PartialEq, Eq)]
+pub enum Kind {
+    Header = 0,
+    Cell = 1,
+    Take = 10,
+    Sum = 11,
+    Diff = 12,
+    Scale = 13,
+    Limit = 14,
+    Wind = 15,
+    Cam = 16,
+    Vote = 20,
+    Actuator = 30,
+}
+
+impl Kind {
+    // The kind with this number, if there is one.
+    pub fn of(number: usize) -> Option<Kind>
+        ensures { KindOf number result }
+    {
+        match number {
+            0 => Some(Kind::Header),
+            1 => Some(Kind::Cell),
+            10 => Some(Kind::Take),
+            11 => Some(Kind::Sum),
+            12 => Some(Kind::Diff),
+            13 => Some(Kind::Scale),
+            14 => Some(Kind::Limit),
+            15 => Some(Kind::Wind),
+            16 => Some(Kind::Cam),
+            20 => Some(Kind::Vote),
+            30 => Some(Kind::Actuator),
+            _ => None,
+        }
+    }
+
+    pub fn number(self) -> usize
+        ensures { result ≡ kind_number self }
+    {
+        self as usize
+    }
+}
+
+// The kind is the number that was read, whether a kind has it or not. The first four columns are indices, the last two may be patterns.
 #[derive(Clone, Copy)]
 pub struct Line {
     pub kind: usize,
@@ -25,29 +68,6 @@ pub struct Line {
 }
 
 impl Line {
-    // The kinds.
-    pub const HEADER: usize = 0;
-
-    pub const CELL: usize = 1;
-
-    pub const TAKE: usize = 10;
-
-    pub const SUM: usize = 11;
-
-    pub const DIFF: usize = 12;
-
-    pub const SCALE: usize = 13;
-
-    pub const LIMIT: usize = 14;
-
-    pub const WIND: usize = 15;
-
-    pub const CAM: usize = 16;
-
-    pub const VOTE: usize = 20;
-
-    pub const ACTUATOR: usize = 30;
-
     // Where the columns after the first begin, and the line feed.
     pub const SECOND: usize = 4;
 
@@ -67,45 +87,33 @@ impl Line {
     pub const MOST: usize = 1 + Plan::CELLS + Plan::TASKS + Plan::VOTES + Plan::ACTUATORS;
 
     pub const TEXT: usize = Line::SIZE * Line::MOST;
+
+    pub fn is(self, kind: Kind) -> bool
+        ensures { result ≡ eqb self.kind (kind_number kind) }
+    {
+        self.kind == kind.number()
+    }
 }
 
-#[derive(Clone, Copy)]
-pub enum LineRead {
-    Whole(Line),
-    Malformed,
-}
-
-pub fn read_line(line: &[u8]) -> LineRead
-    ensures { numbers_read result ≡ numbers_shown widths line.now }
+pub fn read_line(line: &[u8]) -> Option<Line>
+    ensures { option_map numbers_in result ≡ numbers_shown widths line.now }
 {
     if line.len() != Line::SIZE {
-        return LineRead::Malformed;
+        return None;
     }
     // The wide columns are read before any return, so that `read_wide` is inlined; their answers are looked at in the columns' order.
     let fifth_shown = column::step::read_wide(line, Line::FIFTH, Line::SIXTH);
     let sixth_shown = column::step::read_wide(line, Line::SIXTH, Line::FEED);
-    let Number::Value(kind) = column::read(line, 0, Line::SECOND) else {
-        return LineRead::Malformed;
-    };
-    let Number::Value(second) = column::read(line, Line::SECOND, Line::THIRD) else {
-        return LineRead::Malformed;
-    };
-    let Number::Value(third) = column::read(line, Line::THIRD, Line::FOURTH) else {
-        return LineRead::Malformed;
-    };
-    let Number::Value(fourth) = column::read(line, Line::FOURTH, Line::FIFTH) else {
-        return LineRead::Malformed;
-    };
-    let Number::Value(fifth) = fifth_shown else {
-        return LineRead::Malformed;
-    };
-    let Number::Value(sixth) = sixth_shown else {
-        return LineRead::Malformed;
-    };
+    let kind = column::read(line, 0, Line::SECOND)?;
+    let second = column::read(line, Line::SECOND, Line::THIRD)?;
+    let third = column::read(line, Line::THIRD, Line::FOURTH)?;
+    let fourth = column::read(line, Line::FOURTH, Line::FIFTH)?;
+    let fifth = fifth_shown?;
+    let sixth = sixth_shown?;
     if line[Line::FEED] != b'\n' {
-        return LineRead::Malformed;
+        return None;
     }
-    LineRead::Whole(Line {
+    Some(Line {
         kind: kind as usize,
         second: second as usize,
         third: third as usize,
@@ -118,13 +126,13 @@ pub fn read_line(line: &[u8]) -> LineRead
 pub fn is_task(kind: usize) -> bool
     ensures { result ≡ is_task kind }
 {
-    (Line::TAKE <= kind) & (kind <= Line::CAM)
+    (Kind::Take.number() <= kind) & (kind <= Kind::Cam.number())
 }
 
 pub fn is_header(l: Line) -> bool
     ensures { result ≡ is_header (numbers_in l) }
 {
-    (l.kind == Line::HEADER)
+    l.is(Kind::Header)
         & plan_entry::header_ok(
             l.second,
             l.third,
@@ -161,7 +169,7 @@ fn task_in_order(h: Line, j: usize, prev: Line, l: Line) -> bool
 fn smaller_vote(prev: Line, l: Line) -> bool
     ensures { result ≡ smaller_vote (numbers_in prev) (numbers_in l) }
 {
-    (prev.kind == Line::VOTE)
+    prev.is(Kind::Vote)
         & ((prev.second < l.second) | ((prev.second == l.second) & (prev.third < l.third)))
 }
 
@@ -187,32 +195,26 @@ fn actuator_in_order(h: Line, j: usize, prev: Line, l: Line) -> bool
     let number = l.second;
     let due = number < h.sixth as usize;
     if number == 0 {
-        return due & (after_cells(h, j) | (is_task(prev.kind) | (prev.kind == Line::VOTE)));
+        return due & (after_cells(h, j) | (is_task(prev.kind) | prev.is(Kind::Vote)));
     }
-    due & ((prev.kind == Line::ACTUATOR) & follows(prev.second, number))
+    due & (prev.is(Kind::Actuator) & follows(prev.second, number))
 }
 
 pub fn in_order(h: Line, j: usize, prev: Line, l: Line) -> bool
     ensures { result ≡ in_order (numbers_in h) j (numbers_in prev) (numbers_in l) }
 {
-    let kind = l.kind;
-    let cells = h.fourth;
-    if kind == Line::CELL {
-        return (j < cells) & (l.second == j);
-    }
-    if j < cells {
+    let Some(kind) = Kind::of(l.kind) else {
         return false;
+    };
+    let cells = h.fourth;
+    match kind {
+        Kind::Cell => (j < cells) & (l.second == j),
+        Kind::Take | Kind::Sum | Kind::Diff | Kind::Scale | Kind::Limit | Kind::Wind | Kind::Cam =>
+            (cells <= j) & task_in_order(h, j, prev, l),
+        Kind::Vote => (cells <= j) & vote_in_order(h, j, prev, l),
+        Kind::Actuator => (cells <= j) & actuator_in_order(h, j, prev, l),
+        Kind::Header => false,
     }
-    if is_task(kind) {
-        return task_in_order(h, j, prev, l);
-    }
-    if kind == Line::VOTE {
-        return vote_in_order(h, j, prev, l);
-    }
-    if kind == Line::ACTUATOR {
-        return actuator_in_order(h, j, prev, l);
-    }
-    false
 }
 
 // The record in which no line has put its entry yet.
@@ -238,32 +240,24 @@ pub fn zero_plan() -> Plan
     }
 }
 
+// A line of another kind counts as a take.
 fn op_of(l: Line) -> Op
     ensures { result ≡ op_of (numbers_in l) }
 {
-    let kind = l.kind;
     let a = l.fourth;
-    if kind == Line::SUM {
-        return Op::Sum(a, l.fifth as usize);
+    match Kind::of(l.kind).unwrap_or(Kind::Take) {
+        Kind::Sum => Op::Sum(a, l.fifth as usize),
+        Kind::Diff => Op::Diff(a, l.fifth as usize),
+        Kind::Scale => Op::Scale(a, pattern::value(l.fifth)),
+        Kind::Limit => Op::Limit(a, pattern::value(l.fifth), pattern::value(l.sixth)),
+        Kind::Wind => {
+            let rate = pattern::value(l.fifth);
+            let cap = pattern::value(l.sixth);
+            Op::Wind(a, WindLaw { rate, cap })
+        }
+        Kind::Cam => Op::Cam(a),
+        _ => Op::Take(a),
     }
-    if kind == Line::DIFF {
-        return Op::Diff(a, l.fifth as usize);
-    }
-    if kind == Line::SCALE {
-        return Op::Scale(a, pattern::value(l.fifth));
-    }
-    if kind == Line::LIMIT {
-        return Op::Limit(a, pattern::value(l.fifth), pattern::value(l.sixth));
-    }
-    if kind == Line::WIND {
-        let rate = pattern::value(l.fifth);
-        let cap = pattern::value(l.sixth);
-        return Op::Wind(a, WindLaw { rate, cap });
-    }
-    if kind == Line::CAM {
-        return Op::Cam(a);
-    }
-    Op::Take(a)
 }
 
 pub fn task_of(l: Line) -> Task
@@ -280,34 +274,37 @@ pub fn task_of(l: Line) -> Task
 pub fn task_zeros(l: Line) -> bool
     ensures { result ≡ task_zeros (numbers_in l) }
 {
-    let kind = l.kind;
-    let take = kind == Line::TAKE;
-    let cam = kind == Line::CAM;
-    let short = take | (kind == Line::SUM) | (kind == Line::DIFF) | (kind == Line::SCALE) | cam;
-    (!(take | cam) | (l.fifth == 0)) & (!short | (l.sixth == 0))
+    let Some(kind) = Kind::of(l.kind) else {
+        return true;
+    };
+    match kind {
+        Kind::Take | Kind::Cam => (l.fifth == 0) & (l.sixth == 0),
+        Kind::Sum | Kind::Diff | Kind::Scale => l.sixth == 0,
+        _ => true,
+    }
 }
 
 pub fn in_range(h: Line, l: Line) -> bool
     ensures { result ≡ in_range (numbers_in h) (numbers_in l) }
 {
-    let kind = l.kind;
     let cells = h.fourth;
-    if kind == Line::CELL {
-        return (l.third == 0) & (l.fourth == 0) & (l.sixth == 0);
-    }
-    if is_task(kind) {
-        let t = task_of(l);
-        return plan_entry::task_ok(h.third, cells, h.fifth as usize, t) & task_zeros(l);
-    }
     let zeros = (l.fourth == 0) & (l.fifth == 0) & (l.sixth == 0);
-    if kind == Line::VOTE {
-        return (l.second < h.third) & (l.third < cells) & zeros;
+    // Said of the lines that `in_order` refuses too.
+    let actuator_ok = (l.third < cells) & zeros;
+    let Some(kind) = Kind::of(l.kind) else {
+        return actuator_ok;
+    };
+    match kind {
+        Kind::Cell => (l.third == 0) & (l.fourth == 0) & (l.sixth == 0),
+        Kind::Take | Kind::Sum | Kind::Diff | Kind::Scale | Kind::Limit | Kind::Wind | Kind::Cam =>
+            plan_entry::task_ok(h.third, cells, h.fifth as usize, task_of(l)) & task_zeros(l),
+        Kind::Vote => (l.second < h.third) & (l.third < cells) & zeros,
+        Kind::Header | Kind::Actuator => actuator_ok,
     }
-    (l.third < cells) & zeros
 }
 
 pub fn is_last(h: Line, l: Line) -> bool
     ensures { result ≡ is_last (numbers_in h) (numbers_in l) }
 {
-    (l.kind == Line::ACTUATOR) & follows(l.second, h.sixth as usize)
+    l.is(Kind::Actuator) & follows(l.second, h.sixth as usize)
 }

@@ -2,50 +2,29 @@
 #![tactic(auto)]
 
 ghost use Rattle.std.specs.Prelude.{◌≡◌};
-ghost use Rattle.plan_period.specs.Answers.{checked, accepted_period, period_found};
+ghost use Rattle.plan_period.specs.Answers.{checked, period_found};
 
-use answer::Answer;
+use answer::Refusal;
 use plan::Plan;
 
 pub mod step;
 
-#[derive(Clone, Copy)]
-pub struct PeriodFound {
-    pub answer: Answer,
-    pub period: usize,
-}
-
-// The recovery period of an accepted record, and 0 for all others: the test of a record for the calls above.
-pub fn accepted_period(plan: Plan) -> usize
-    ensures { result ≡ accepted_period plan }
-{
-    if plan_form::well_formed(plan) {
-        return step::period(plan);
-    }
-    0
-}
-
-pub fn check(plan: Plan) -> Answer
-    ensures { result ≡ checked plan }
-{
-    if accepted_period(plan) == 0 {
-        return Answer::InvalidPlan;
-    }
-    Answer::Done
-}
-
-pub fn recovery_period(plan: Plan) -> PeriodFound
+// The recovery period of an accepted record: the test of a record for the calls above.
+pub fn recovery_period(plan: Plan) -> Result<usize, Refusal>
     ensures { result ≡ period_found plan }
 {
-    let period = accepted_period(plan);
-    if period == 0 {
-        return PeriodFound {
-            answer: Answer::InvalidPlan,
-            period: 0,
-        };
+    if !plan_form::well_formed(plan) {
+        return Err(Refusal::InvalidPlan);
     }
-    PeriodFound {
-        answer: Answer::Done,
-        period,
-    }
+    let Some(period) = step::period(plan) else {
+        return Err(Refusal::InvalidPlan);
+    };
+    Ok(period)
+}
+
+pub fn check(plan: Plan) -> Result<(), Refusal>
+    ensures { result ≡ checked plan }
+{
+    recovery_period(plan)?;
+    Ok(())
 }

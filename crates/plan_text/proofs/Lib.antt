@@ -1,3 +1,4 @@
 pub mod StoreLaws
 pub mod ReadLaws
 pub mod TextLaws
+pub mod GivenLaws

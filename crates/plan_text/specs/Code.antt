@@ -1,8 +1,11 @@
--- The code's own: the period that a text's last test finds. No definition of document 01 cites this.
-use Rattle.std.specs.Prelude.{List, ℕ}
-use Rattle.plan_period.specs.Answers.{accepted_period}
-use Rattle.plan_text.specs.Answers.{read_answer}
+-- The code's own: a plan with the period that the last test on its text finds. No definition of document 01 cites this.
+use Rattle.std.specs.Prelude.{List, ℕ, Result}
+use Rattle.answer.specs.declared.Refusal.{Refusal}
+use Rattle.answer.specs.Tests.{unless}
+use Rattle.plan.specs.Known.{period}
+use Rattle.plan_grammar.specs.Meant.{plan_of}
+use Rattle.plan_grammar.specs.Refused.{text_refusal}
+use Rattle.plan_text.specs.declared.PlanRead.{PlanRead}
 
--- the recovery period of the plan, 0 beside a refusal
-unfoldable pub read_period : List ℕ → ℕ
-read_period s = accepted_period (read_answer s).plan
+unfoldable pub plan_found : List ℕ → Result PlanRead Refusal
+plan_found s = unless (text_refusal s) (record { plan = plan_of s; period = period (plan_of s) })

@@ -4,27 +4,21 @@
 ghost use Rattle.std.specs.Prelude.{◌≡◌};
 ghost use Rattle.plan_text.specs.Answers.{read_answer};
 
-use answer::Answer;
+use answer::Refusal;
 use plan::Plan;
 
 pub mod step;
 
+// A plan and its recovery period, which the last test on its text finds.
 #[derive(Clone, Copy)]
 pub struct PlanRead {
-    pub answer: Answer,
     pub plan: Plan,
+    pub period: usize,
 }
 
-// What a call that writes a text gives: so many bytes stand at the front of its buffer.
-#[derive(Clone, Copy)]
-pub struct TextWritten {
-    pub answer: Answer,
-    pub count: usize,
-}
-
-pub fn read(text: &[u8]) -> PlanRead
+pub fn read(text: &[u8]) -> Result<Plan, Refusal>
     ensures { result ≡ read_answer text.now }
 {
-    let mut period: usize = 0;
-    step::read(text, &mut period)
+    let found = step::read(text)?;
+    Ok(found.plan)
 }

@@ -3,7 +3,6 @@
 // shows 1 beside the number 0. tests/plan_texts/cases.rs makes the file, and what is to be printed, from document 01.
 #![tactic(auto)]
 
-use numeral::Number;
 use plan::Plan;
 use plan_line::Line;
 use std::io::Write;
@@ -12,54 +11,44 @@ use std::{fs, io};
 // Whether the plan, written, gives the text again.
 fn written_back(plan: Plan, text: &[u8]) -> bool {
     let mut out = [0u8; Line::TEXT];
-    let written = plan_text_write::write(plan, &mut out);
-    let answer = written.answer;
-    let count = written.count;
+    let Ok(count) = plan_text_write::write(plan, &mut out) else {
+        return false;
+    };
     let s = &out[..];
     if s.len() < count {
         return false;
     }
-    (answer.number() == 0) & check::same(&s[0..count], text)
-}
-
-// A write that fails is passed over.
-fn print_bytes<R: Print>(rt: &R, bytes: &[u8]) {
-    let mut out = io::writer(rt);
-    let _ = out.write_all(bytes);
+    check::same(&s[0..count], text)
 }
 
 fn print<R: Print>(rt: &R, number: usize, line: usize) {
     let mut first = [0u8; 4];
     column_write::write(&mut first, number as u64);
-    print_bytes(rt, &first);
     let mut second = [0u8; 8];
     column_write::write(&mut second, line as u64);
-    print_bytes(rt, &second);
-    print_bytes(rt, b"\n");
+    // A write that fails is passed over.
+    let mut out = io::writer(rt);
+    let _ = out.write_all(&first);
+    let _ = out.write_all(&second);
+    let _ = out.write_all(b"\n");
 }
 
 fn show<R: Print>(rt: &R, text: &[u8]) {
-    let read = plan_text::read(text);
-    let answer = read.answer;
-    let number = answer.number();
-    if number == 0 {
-        let plan = read.plan;
-        if !written_back(plan, text) {
-            print(rt, 0, 1);
-            return;
-        }
+    match plan_text::read(text) {
+        Ok(plan) => print(rt, 0, if written_back(plan, text) { 0 } else { 1 }),
+        Err(refusal) => print(rt, refusal.number(), refusal.line()),
     }
-    print(rt, number, answer.line());
 }
 
 fn show_all<R: Print>(rt: &R, texts: &[u8]) {
     let n = texts.len();
+    // Each text says its length, so nothing counts the texts.
     let mut at: usize = 0;
     while at < n {
         if n - at < 9 {
             return;
         }
-        let Number::Value(size) = column::read(texts, at, at + 8) else {
+        let Some(size) = column::read(texts, at, at + 8) else {
             return;
         };
         let from = at + 9;

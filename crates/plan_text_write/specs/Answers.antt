@@ -1,17 +1,18 @@
--- What the call that writes a plan text answers.
-use Rattle.std.specs.Prelude.{List, [], ◌∷◌, ◌++◌, ℕ, leb, length, drop}
-use Rattle.answer.specs.Tests.{Test, test, answered, if_passed}
+-- What the call that writes a plan text gives.
+use Rattle.std.specs.Prelude.{List, [], ◌∷◌, ◌++◌, ℕ, leb, length, drop, Result}
+use Rattle.answer.specs.declared.Refusal.{Refusal}
+use Rattle.answer.specs.Tests.{Test, test, given, if_passed}
 use Rattle.plan.specs.declared.Plan.{Plan}
 use Rattle.plan.specs.Accepted.{accepted}
 use Rattle.plan_grammar.specs.Written.{plan_text}
-use Rattle.plan_text.specs.declared.TextWritten.{TextWritten}
 
 -- 7, then 8: "a text buffer too short"
 unfoldable pub write_tests : Plan → ℕ → List Test
 write_tests p room = test 7 (accepted p) ∷ test 8 (leb (length (plan_text p)) room) ∷ []
 
-unfoldable pub write_answer : Plan → ℕ → TextWritten
-write_answer p room = record { answer = answered (write_tests p room); count = if_passed (write_tests p room) (length (plan_text p)) 0 }
+-- how many bytes are written
+unfoldable pub write_answer : Plan → ℕ → Result ℕ Refusal
+write_answer p room = given (write_tests p room) (length (plan_text p))
 
 -- "A written text fills the first bytes of its buffer; the rest is unchanged."
 unfoldable pub write_place : Plan → List ℕ → List ℕ

@@ -1,10 +1,11 @@
 // All first frames are advanced together: in the word of a cell, bit g says whether the cell is known from first frame g.
-ghost use Rattle.std.specs.Prelude.{◌≡◌, cond, ℕ, ◌+◌, ◌-◌, ◌^◌, ◌<◌, ◌≤◌, min, get_or};
+ghost use Rattle.std.specs.Prelude.{◌≡◌, cond, ℕ, ◌+◌, ◌-◌, ◌^◌, ◌<◌, ◌≤◌, get_or};
 ghost use Rattle.array.specs.Index.{all_below};
 ghost use Rattle.array.specs.Bit.{bit};
 ghost use Rattle.plan.specs.Limits.{most_frames, most_cells};
 ghost use Rattle.plan_walk.specs.Code.{read_word, after_task, with_votes, longer, Unset, Closed};
 
+use array::step::entry_or;
 use plan::{Op, Plan, Task};
 
 // The first frames 0, 1, .. are begun in this order, one in each frame, and advanced frame by frame.
@@ -26,33 +27,18 @@ pub fn ones(n: usize) -> u16
     ((1u32 << n) - 1) as u16
 }
 
-pub fn least(a: usize, b: usize) -> usize
-    ensures { result ≡ min a b }
-{
-    if a < b { a } else { b }
-}
-
-fn word(words: &[u16], cell: usize) -> u16
-    ensures { result ≡ get_or words.now cell 0 }
-{
-    if cell < words.len() {
-        return words[cell];
-    }
-    0
-}
-
 // The first frames, of those begun, from which all cells that a task reads are known.
 fn read_word(op: Op, target: usize, begun: u16, words: &[u16]) -> u16
     ensures { result ≡ read_word op target begun words.now }
 {
     match op {
         Op::Take(_) => begun,
-        Op::Sum(a, b) => word(words, a) & (word(words, b) & begun),
-        Op::Diff(a, b) => word(words, a) & (word(words, b) & begun),
-        Op::Scale(a, _) => word(words, a) & begun,
-        Op::Limit(a, _, _) => word(words, a) & begun,
-        Op::Wind(a, _) => word(words, a) & (word(words, target) & begun),
-        Op::Cam(a) => word(words, a) & begun,
+        Op::Sum(a, b) => entry_or(words, a, 0) & (entry_or(words, b, 0) & begun),
+        Op::Diff(a, b) => entry_or(words, a, 0) & (entry_or(words, b, 0) & begun),
+        Op::Scale(a, _) => entry_or(words, a, 0) & begun,
+        Op::Limit(a, _, _) => entry_or(words, a, 0) & begun,
+        Op::Wind(a, _) => entry_or(words, a, 0) & (entry_or(words, target, 0) & begun),
+        Op::Cam(a) => entry_or(words, a, 0) & begun,
     }
 }
 
@@ -84,10 +70,8 @@ fn add_votes(
     requires { (frame < most_frames) × (cells ≤ most_cells) }
     ensures { words.new ≡ with_votes voted.now frame cells begun words.old }
 {
-    let mut c: usize = 0;
-    while c < cells {
+    for c in 0..cells {
         words[c] = words[c] | if_voted(voted[plan::step::vote_place(frame, c)], begun);
-        c += 1;
     }
 }
 
@@ -97,10 +81,8 @@ fn known_by_all(words: &[u16; Plan::CELLS], cells: usize) -> u16
     ensures { (g : ℕ) → g < most_frames → bit result g ≡ all_below (λ c. bit (get_or words.now c 0) g) cells }
 {
     let mut all: u16 = 65535;
-    let mut c: usize = 0;
-    while c < cells {
+    for c in 0..cells {
         all = all & words[c];
-        c += 1;
     }
     all
 }
@@ -110,14 +92,12 @@ fn first_unset(w: u16, low: usize, high: usize) -> usize
     requires { (low ≤ high) × (high ≤ most_frames) }
     ensures { Unset w low high result }
 {
-    let mut g = low;
-    while g < high {
+    for g in low..high {
         if (w >> g) % 2 == 0 {
             return g;
         }
-        g += 1;
     }
-    g
+    high
 }
 
 // From first frame low, below `frames`, something is not known after ran frames in all.
@@ -154,7 +134,7 @@ pub fn closed(
 {
     let frame = w.frame;
     let ran = w.time + 1;
-    let begun = ones(least(ran, frames));
+    let begun = ones(ran.min(frames));
     add_votes(words, voted, frame, cells, begun);
     let whole = known_by_all(words, cells);
     let low = first_unset(whole, w.low, frames);

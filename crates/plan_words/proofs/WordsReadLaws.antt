@@ -1,8 +1,8 @@
 -- Laws for reading a plan from words: entries stored one by one, four votes at a time, a task of its numbers, the plan.
+use Rattle.std.specs.Prelude.{Option, None, Some}
 use mathlib.Core.Path.{◌≡◌, refl, sym, ap, ◌∙◌}
 use mathlib.Core.Bool.{Bool, true, false, not, cond, ◌&&◌, and-false}
 use mathlib.Core.List.{List, [], ◌∷◌}
-use mathlib.Core.Option.{Option, none, some}
 use Prim.Native.Nat.{ℕ, ◌+◌, ◌*◌, ◌/◌, ◌%◌, ◌^◌, ◌≤◌, ◌<◌}
 use native.Mathlib.Omega.{arith}
 use lib.Dec.{eqb}
@@ -29,10 +29,7 @@ use Rattle.plan_grammar.specs.Refused.{task_zeros}
 use Rattle.plan_grammar.proofs.MeantLaws.{by_kind}
 use Rattle.plan_line.specs.declared.Line.{Line}
 use Rattle.plan_line.specs.Code.{numbers_in}
-use Rattle.plan_words.specs.declared.step.TaskRead.{TaskRead}
-use Rattle.plan_words.specs.declared.step.TaskRead.TheVariants.{Whole, Malformed}
 use Rattle.plan_words.specs.Words.{initial_at, votes_at, actuators_at, plan_size, task_in, vote_in, plan_in, task_words, vote_words, words_ok, plan_of_words}
-use Rattle.plan_words.specs.Code.{task_read}
 use Rattle.plan_words.proofs.BitsLaws.{bit-of-four}
 
 -- ---- the table of the bits of 0 to 15
@@ -126,43 +123,43 @@ module _ (f c a b d : ℕ) where
   -- the task of six numbers, if they are a task's
   abbrev pub task_said : ℕ → Option Task
   task_said k =
-      cond (is_task k && task_zeros (k ∷ f ∷ c ∷ a ∷ b ∷ d ∷ [])) (some (task_of (k ∷ f ∷ c ∷ a ∷ b ∷ d ∷ []))) none
+      cond (is_task k && task_zeros (k ∷ f ∷ c ∷ a ∷ b ∷ d ∷ [])) (Some (task_of (k ∷ f ∷ c ∷ a ∷ b ∷ d ∷ []))) None
 
-  abbrev pub task_with : Op → Option Task
-  task_with o = some (record { frame = f; target = c; op = o })
+  abbrev pub task_with : Op → Task
+  task_with o = record { frame = f; target = c; op = o }
 
   -- by the tests of the kind, in the code's order
-  module _ {k : ℕ} {r : Option Task} where
-    pub said-limit : {x y : Float} → k ≡ limit_kind → x ≡ value_of b → y ≡ value_of d → r ≡ task_with (Limit a x y) → r ≡ task_said k
+  module _ {k : ℕ} {r : Task} where
+    pub said-limit : {x y : Float} → k ≡ limit_kind → x ≡ value_of b → y ≡ value_of d → r ≡ task_with (Limit a x y) → Some r ≡ task_said k
     unfolding is_task task_zeros task_of op_of
-    said-limit e p q h = h ∙ rw (e, p, q)
+    said-limit e p q h = ap Some h ∙ rw (e, p, q)
 
-    pub said-wind : {x y : Float} → k ≡ wind_kind → x ≡ value_of b → y ≡ value_of d → r ≡ task_with (Wind a (record { rate = x; cap = y })) → r ≡ task_said k
+    pub said-wind : {x y : Float} → k ≡ wind_kind → x ≡ value_of b → y ≡ value_of d → r ≡ task_with (Wind a (record { rate = x; cap = y })) → Some r ≡ task_said k
     unfolding is_task task_zeros task_of op_of
-    said-wind e p q h = h ∙ rw (e, p, q)
+    said-wind e p q h = ap Some h ∙ rw (e, p, q)
 
-    pub said-sum : k ≡ sum_kind → d ≡ 0 → r ≡ task_with (Sum a b) → r ≡ task_said k
+    pub said-sum : k ≡ sum_kind → d ≡ 0 → r ≡ task_with (Sum a b) → Some r ≡ task_said k
     unfolding is_task task_zeros task_of op_of
-    said-sum e z h = h ∙ rw (e, z)
+    said-sum e z h = ap Some h ∙ rw (e, z)
 
-    pub said-diff : k ≡ diff_kind → d ≡ 0 → r ≡ task_with (Diff a b) → r ≡ task_said k
+    pub said-diff : k ≡ diff_kind → d ≡ 0 → r ≡ task_with (Diff a b) → Some r ≡ task_said k
     unfolding is_task task_zeros task_of op_of
-    said-diff e z h = h ∙ rw (e, z)
+    said-diff e z h = ap Some h ∙ rw (e, z)
 
-    pub said-scale : {x : Float} → k ≡ scale_kind → d ≡ 0 → x ≡ value_of b → r ≡ task_with (Scale a x) → r ≡ task_said k
+    pub said-scale : {x : Float} → k ≡ scale_kind → d ≡ 0 → x ≡ value_of b → r ≡ task_with (Scale a x) → Some r ≡ task_said k
     unfolding is_task task_zeros task_of op_of
-    said-scale e z p h = h ∙ rw (e, z, p)
+    said-scale e z p h = ap Some h ∙ rw (e, z, p)
 
-    pub said-cam : k ≡ cam_kind → d ≡ 0 → b ≡ 0 → r ≡ task_with (Cam a) → r ≡ task_said k
+    pub said-cam : k ≡ cam_kind → d ≡ 0 → b ≡ 0 → r ≡ task_with (Cam a) → Some r ≡ task_said k
     unfolding is_task task_zeros task_of op_of
-    said-cam e z y h = h ∙ rw (e, z, y)
+    said-cam e z y h = ap Some h ∙ rw (e, z, y)
 
-    pub said-take : k ≡ take_kind → d ≡ 0 → b ≡ 0 → r ≡ task_with (Take a) → r ≡ task_said k
+    pub said-take : k ≡ take_kind → d ≡ 0 → b ≡ 0 → r ≡ task_with (Take a) → Some r ≡ task_said k
     unfolding is_task task_zeros task_of op_of
-    said-take e z y h = h ∙ rw (e, z, y)
+    said-take e z y h = ap Some h ∙ rw (e, z, y)
 
   abbrev NoSixth : ℕ → Type 0
-  NoSixth k = (k ≡ limit_kind → ⊥) → (k ≡ wind_kind → ⊥) → none ≡ task_said k
+  NoSixth k = (k ≡ limit_kind → ⊥) → (k ≡ wind_kind → ⊥) → None ≡ task_said k
 
   pub said-no-sixth : (k : ℕ) → (d ≡ 0 → ⊥) → NoSixth k
   unfolding is_task task_zeros
@@ -178,7 +175,7 @@ module _ (f c a b d : ℕ) where
   Bare k X = (k ≡ limit_kind → ⊥) → (k ≡ wind_kind → ⊥) → (k ≡ sum_kind → ⊥) → (k ≡ diff_kind → ⊥) → (k ≡ scale_kind → ⊥) → X
 
   abbrev NoFifth : ℕ → Type 0
-  NoFifth k = Bare k (none ≡ task_said k)
+  NoFifth k = Bare k (None ≡ task_said k)
 
   pub said-no-fifth : (k : ℕ) → (b ≡ 0 → ⊥) → NoFifth k
   unfolding is_task task_zeros
@@ -191,7 +188,7 @@ module _ (f c a b d : ℕ) where
       (λ t l w s d c. rw t)
 
   abbrev NoKind : ℕ → Type 0
-  NoKind k = Bare k ((k ≡ cam_kind → ⊥) → (k ≡ take_kind → ⊥) → none ≡ task_said k)
+  NoKind k = Bare k ((k ≡ cam_kind → ⊥) → (k ≡ take_kind → ⊥) → None ≡ task_said k)
 
   pub said-no-kind : (k : ℕ) → NoKind k
   said-no-kind k =
@@ -201,11 +198,11 @@ module _ (f c a b d : ℕ) where
       (λ l w s d c m t. absurd (l refl)) (λ l w s d c m t. absurd (w refl)) (λ l w s d c m t. absurd (m refl)) k)
       (λ t l w s d c m n. rw t)
 
-some_of : (b : Bool) (t x : Task) → some t ≡ cond b (some x) none → (b ≡ true) × (t ≡ x)
+some_of : (b : Bool) (t x : Task) → Some t ≡ cond b (Some x) None → (b ≡ true) × (t ≡ x)
 some_of true t x e = (refl, cc)
 some_of false t x e = absurd (let z : ◌≡◌ {A = ℕ} 0 1 = cc in omega arith)
 
-none_of : (b : Bool) (x : Task) → none ≡ cond b (some x) none → b ≡ false
+none_of : (b : Bool) (x : Task) → None ≡ cond b (Some x) None → b ≡ false
 none_of true x e = absurd (let z : ◌≡◌ {A = ℕ} 0 1 = cc in omega arith)
 none_of false x e = refl
 
@@ -213,16 +210,16 @@ none_of false x e = refl
 
 module _ (ws : List ℕ) where
   -- what the words of task k gave
-  module _ (k : ℕ) (l : Line) (r : TaskRead) (e : numbers_in l ≡ task_in ws k) (h : task_read r ≡ cond (is_task l.kind && task_zeros (numbers_in l)) (some (task_of (numbers_in l))) none) where
-    told : task_read r ≡ cond (task_words ws k) (some (task_of (task_in ws k))) none
+  module _ (k : ℕ) (l : Line) (r : Option Task) (e : numbers_in l ≡ task_in ws k) (h : r ≡ cond (is_task l.kind && task_zeros (numbers_in l)) (Some (task_of (numbers_in l))) None) where
+    told : r ≡ cond (task_words ws k) (Some (task_of (task_in ws k))) None
     unfolding task_words
-    told = h ∙ ap (λ (n : List ℕ). cond (is_task (kind_of n) && task_zeros n) (some (task_of n)) none) e
+    told = h ∙ ap (λ (n : List ℕ). cond (is_task (kind_of n) && task_zeros n) (Some (task_of n)) None) e
 
-    pub task-whole : {t : Task} → r ≡ Whole t → (task_words ws k ≡ true) × (t ≡ task_of (task_in ws k))
-    task-whole g = some_of (task_words ws k) _ (task_of (task_in ws k)) (sym (ap task_read g) ∙ told)
+    pub task-whole : {t : Task} → r ≡ Some t → (task_words ws k ≡ true) × (t ≡ task_of (task_in ws k))
+    task-whole g = some_of (task_words ws k) _ (task_of (task_in ws k)) (sym g ∙ told)
 
-    pub task-malformed : r ≡ Malformed → task_words ws k ≡ false
-    task-malformed g = none_of (task_words ws k) (task_of (task_in ws k)) (sym (ap task_read g) ∙ told)
+    pub task-none : r ≡ None → task_words ws k ≡ false
+    task-none g = none_of (task_words ws k) (task_of (task_in ws k)) (sym g ∙ told)
 
   module _ {r : Plan} (h : r ≡ zero_plan) where
     refused : words_ok ws ≡ false → r ≡ plan_of_words ws

@@ -1,6 +1,5 @@
 // A plan made of words, for any words, and the words of an accepted plan.
-ghost use Rattle.std.specs.Prelude.{◌≡◌, Bool, true, false, cond, ◌&&◌, List, [], ◌∷◌, ℕ, ◌+◌, ◌*◌, ◌/◌, ◌%◌, ◌<◌, ◌≤◌, length, get_or, set};
-ghost use Rattle.std.proofs.Math.Option.{none, some};
+ghost use Rattle.std.specs.Prelude.{◌≡◌, Bool, true, false, cond, ◌&&◌, List, [], ◌∷◌, ℕ, ◌+◌, ◌*◌, ◌/◌, ◌%◌, ◌<◌, ◌≤◌, length, get_or, set, None, Some};
 ghost use Rattle.array.specs.Index.{all_below, fill, joined, from};
 ghost use Rattle.array.specs.Bit.{bit};
 ghost use Rattle.plan.specs.Limits.{most_frames, most_cells, most_tasks, most_actuators};
@@ -12,11 +11,10 @@ ghost use Rattle.plan_grammar.specs.Refused.{task_zeros};
 ghost use Rattle.plan_grammar.specs.Written.{task_line};
 ghost use Rattle.plan_line.specs.Code.{numbers_in};
 ghost use Rattle.plan_words.specs.Words.{initial_at, actuators_at, task_size, plan_size, number_of_bits, plan_words, task_in, vote_in, vote_words, plan_of_words};
-ghost use Rattle.plan_words.specs.Code.{task_read};
 
 use pattern::WindLaw;
 use plan::{Op, Plan, Task};
-use plan_line::Line;
+use plan_line::{Kind, Line};
 
 // Where the parts begin: the counts are before the initial patterns.
 const INITIAL: usize = 6;
@@ -31,6 +29,17 @@ const VOTES: usize = TASKS + TASK * Plan::TASKS;
 const ACTUATORS: usize = VOTES + Plan::FRAMES;
 
 pub const SIZE: usize = ACTUATORS + Plan::ACTUATORS;
+
+// Words copied to a place that is as long. Here std's `copy_from_slice` is compiled to a call of memmove, and the library for C may need memcpy and memset alone.
+fn copy(from: &[u64], to: &mut [u64])
+    requires { length from.now ≡ length to.old }
+    ensures { to.new ≡ from.now }
+{
+    let n = from.len();
+    for k in 0..n {
+        to[k] = from[k];
+    }
+}
 
 // ---- from words to a plan
 
@@ -50,73 +59,64 @@ fn task(words: &[u64], k: usize) -> Line
     }
 }
 
-#[derive(Clone, Copy)]
-pub enum TaskRead {
-    Whole(Task),
-    Malformed,
-}
-
-fn whole(l: Line, op: Op) -> TaskRead
-    ensures { task_read result ≡ some (record { frame = l.second; target = l.third; op = op }) }
+fn task_with(l: Line, op: Op) -> Task
+    ensures { result ≡ record { frame = l.second; target = l.third; op = op } }
 {
-    TaskRead::Whole(Task {
+    Task {
         frame: l.second,
         target: l.third,
         op,
-    })
+    }
 }
 
-// The task of its numbers, kind and zeros tested in one way through: this is a third of what a plan costs.
-fn task_of(l: Line) -> TaskRead
-    ensures { task_read result ≡ cond (is_task l.kind && task_zeros (numbers_in l)) (some (task_of (numbers_in l))) none }
+// The task of its numbers, kind and zeros tested in one way through: this is a third of what a plan costs. A `match` on `Kind::of` would test first whether there is a kind.
+fn task_of(l: Line) -> Option<Task>
+    ensures { result ≡ cond (is_task l.kind && task_zeros (numbers_in l)) (Some (task_of (numbers_in l))) None }
 {
-    let kind = l.kind;
     let a = l.fourth;
-    if kind == Line::LIMIT {
-        return whole(
+    if l.is(Kind::Limit) {
+        return Some(task_with(
             l,
             Op::Limit(a, pattern::value(l.fifth), pattern::value(l.sixth)),
-        );
+        ));
     }
-    if kind == Line::WIND {
+    if l.is(Kind::Wind) {
         let rate = pattern::value(l.fifth);
         let cap = pattern::value(l.sixth);
-        return whole(l, Op::Wind(a, WindLaw { rate, cap }));
+        return Some(task_with(l, Op::Wind(a, WindLaw { rate, cap })));
     }
     if l.sixth != 0 {
-        return TaskRead::Malformed;
+        return None;
     }
-    if kind == Line::SUM {
-        return whole(l, Op::Sum(a, l.fifth as usize));
+    if l.is(Kind::Sum) {
+        return Some(task_with(l, Op::Sum(a, l.fifth as usize)));
     }
-    if kind == Line::DIFF {
-        return whole(l, Op::Diff(a, l.fifth as usize));
+    if l.is(Kind::Diff) {
+        return Some(task_with(l, Op::Diff(a, l.fifth as usize)));
     }
-    if kind == Line::SCALE {
-        return whole(l, Op::Scale(a, pattern::value(l.fifth)));
+    if l.is(Kind::Scale) {
+        return Some(task_with(l, Op::Scale(a, pattern::value(l.fifth))));
     }
     if l.fifth != 0 {
-        return TaskRead::Malformed;
+        return None;
     }
-    if kind == Line::TAKE {
-        return whole(l, Op::Take(a));
+    if l.is(Kind::Take) {
+        return Some(task_with(l, Op::Take(a)));
     }
-    if kind != Line::CAM {
-        return TaskRead::Malformed;
+    if !l.is(Kind::Cam) {
+        return None;
     }
-    whole(l, Op::Cam(a))
+    Some(task_with(l, Op::Cam(a)))
 }
 
 fn votes_ok(words: &[u64]) -> bool
     requires { length words.now ≡ plan_size }
     ensures { result ≡ all_below (vote_words words.now) most_frames }
 {
-    let mut g: usize = 0;
-    while g < Plan::FRAMES {
+    for g in 0..Plan::FRAMES {
         if words[VOTES + g] >> Plan::CELLS != 0 {
             return false;
         }
-        g += 1;
     }
     true
 }
@@ -139,10 +139,9 @@ fn frame_votes(word: u64, table: &[bool; 64], frame: usize, voted: &mut [bool; P
     ensures { (q : ℕ → Bool) (l : List Bool) → voted.old ≡ fill q (vote_place frame 0) l → ((c : ℕ) → c < most_cells → q (vote_place frame c) ≡ bit word c) → voted.new ≡ fill q (vote_place frame most_cells) l }
 {
     let first = plan::step::vote_place(frame, 0);
-    let mut c: usize = 0;
-    while c < Plan::CELLS {
+    for k in 0..Plan::CELLS / 4 {
+        let c = 4 * k;
         four_votes((word >> c) as usize % 16, table, first + c, voted);
-        c += 4;
     }
 }
 
@@ -157,10 +156,8 @@ fn votes_in(words: &[u64], voted: &mut [bool; Plan::VOTES])
         true, false, true, true, true, false, true, false, false, true, true, true, false, true,
         true, false, true, true, true, true, true, true, true,
     ];
-    let mut g: usize = 0;
-    while g < Plan::FRAMES {
+    for g in 0..Plan::FRAMES {
         frame_votes(words[VOTES + g], &table, g, voted);
-        g += 1;
     }
 }
 
@@ -168,10 +165,8 @@ fn actuators_in(words: &[u64], table: &mut [usize; Plan::ACTUATORS])
     requires { length words.now ≡ plan_size }
     ensures { table.new ≡ fill (λ i. get_or words.now (actuators_at + i) 0) most_actuators table.old }
 {
-    let mut i: usize = 0;
-    while i < Plan::ACTUATORS {
+    for i in 0..Plan::ACTUATORS {
         table[i] = words[ACTUATORS + i] as usize;
-        i += 1;
     }
 }
 
@@ -187,7 +182,7 @@ pub fn plan(words: &[u64]) -> Plan
     let mut initial = [0u64; Plan::CELLS];
     let mut voted = [false; Plan::VOTES];
     let mut actuator_cell = [0usize; Plan::ACTUATORS];
-    array::step::copy(&words[INITIAL..TASKS], &mut initial);
+    copy(&words[INITIAL..TASKS], &mut initial);
     votes_in(words, &mut voted);
     actuators_in(words, &mut actuator_cell);
     let unused = Task {
@@ -196,13 +191,11 @@ pub fn plan(words: &[u64]) -> Plan
         op: Op::Take(0),
     };
     let mut tasks = [unused; Plan::TASKS];
-    let mut k: usize = 0;
-    while k < Plan::TASKS {
-        let TaskRead::Whole(t) = task_of(task(words, k)) else {
+    for k in 0..Plan::TASKS {
+        let Some(t) = task_of(task(words, k)) else {
             return plan_line::zero_plan();
         };
         tasks[k] = t;
-        k += 1;
     }
     Plan {
         nodes: words[0] as usize,
@@ -248,12 +241,10 @@ fn put_tasks(plan: Plan, out: &mut [u64])
     requires { length out.old ≡ task_size * most_tasks }
     ensures { out.new ≡ joined (λ k. task_line (task_at plan k)) most_tasks }
 {
-    let mut k: usize = 0;
-    while k < Plan::TASKS {
+    for k in 0..Plan::TASKS {
         let t = plan.tasks[k];
         let at = TASK * k;
         put_task(plan_writer::step::task_line(t), &mut out[at..at + TASK]);
-        k += 1;
     }
 }
 
@@ -263,12 +254,10 @@ fn vote_word(voted: &[bool; Plan::VOTES], frame: usize) -> u64
     ensures { result ≡ number_of_bits (λ c. get_or voted.now (vote_place frame c) false) most_cells }
 {
     let mut word: u64 = 0;
-    let mut c: usize = 0;
-    while c < Plan::CELLS {
+    for c in 0..Plan::CELLS {
         if plan::step::is_voted(voted, frame, c) {
             word += 1 << c;
         }
-        c += 1;
     }
     word
 }
@@ -277,10 +266,8 @@ fn put_votes(voted: &[bool; Plan::VOTES], out: &mut [u64])
     requires { length out.old ≡ most_frames }
     ensures { out.new ≡ joined (λ g. number_of_bits (λ c. get_or voted.now (vote_place g c) false) most_cells ∷ []) most_frames }
 {
-    let mut g: usize = 0;
-    while g < Plan::FRAMES {
+    for g in 0..Plan::FRAMES {
         out[g] = vote_word(voted, g);
-        g += 1;
     }
 }
 
@@ -288,10 +275,8 @@ fn put_actuators(table: &[usize; Plan::ACTUATORS], out: &mut [u64])
     requires { length out.old ≡ most_actuators }
     ensures { out.new ≡ from 0 table.now 0 most_actuators }
 {
-    let mut i: usize = 0;
-    while i < Plan::ACTUATORS {
+    for i in 0..Plan::ACTUATORS {
         out[i] = table[i] as u64;
-        i += 1;
     }
 }
 
@@ -300,7 +285,7 @@ pub fn put(plan: Plan, words: &mut [u64])
     ensures { words.new ≡ plan_words plan }
 {
     put_counts(plan, &mut words[0..INITIAL]);
-    array::step::copy(&plan.initial, &mut words[INITIAL..TASKS]);
+    copy(&plan.initial, &mut words[INITIAL..TASKS]);
     put_tasks(plan, &mut words[TASKS..VOTES]);
     put_votes(&plan.voted, &mut words[VOTES..ACTUATORS]);
     put_actuators(&plan.actuator_cell, &mut words[ACTUATORS..SIZE]);

@@ -9,16 +9,16 @@ ghost use Rattle.plan.specs.Accepted.{accepted};
 ghost use Rattle.plan_grammar.specs.Line.{widths, line_size, most_text_lines, cell_kind, actuator_kind};
 ghost use Rattle.plan_grammar.specs.Written.{op_line, task_line, vote_line, plan_text};
 ghost use Rattle.array.specs.Code.{placed};
-ghost use Rattle.plan_line.specs.Code.{numbers_in};
+ghost use Rattle.plan_line.specs.Code.{kind_number, numbers_in};
 
 use plan::{Op, Plan, Task};
-use plan_line::Line;
+use plan_line::{Kind, Line};
 
-fn numbers(kind: usize, second: usize, third: usize, fourth: usize, fifth: u64, sixth: u64) -> Line
-    ensures { numbers_in result ≡ kind ∷ second ∷ third ∷ fourth ∷ fifth ∷ sixth ∷ [] }
+fn numbers(kind: Kind, second: usize, third: usize, fourth: usize, fifth: u64, sixth: u64) -> Line
+    ensures { numbers_in result ≡ kind_number kind ∷ second ∷ third ∷ fourth ∷ fifth ∷ sixth ∷ [] }
 {
     Line {
-        kind,
+        kind: kind.number(),
         second,
         third,
         fourth,
@@ -51,10 +51,8 @@ fn write_cells(initial: &[u64; Plan::CELLS], cells: usize, out: &mut [u8], from:
     requires { (cells ≤ most_cells) × (line_size * (from + cells) ≤ length out.old) × (from + cells ≤ most_text_lines) }
     ensures { out.new ≡ placed out.old (line_size * from) (joined (λ c. row widths (cell_kind ∷ c ∷ 0 ∷ 0 ∷ get_or initial.now c 0 ∷ 0 ∷ [])) cells) }
 {
-    let mut c: usize = 0;
-    while c < cells {
-        write_line(out, from + c, numbers(Line::CELL, c, 0, 0, initial[c], 0));
-        c += 1;
+    for c in 0..cells {
+        write_line(out, from + c, numbers(Kind::Cell, c, 0, 0, initial[c], 0));
     }
 }
 
@@ -63,12 +61,12 @@ fn op_line(frame: usize, target: usize, op: Op) -> Line
     ensures { numbers_in result ≡ op_line frame target op }
 {
     match op {
-        Op::Take(s) => numbers(Line::TAKE, frame, target, s, 0, 0),
-        Op::Sum(a, b) => numbers(Line::SUM, frame, target, a, b as u64, 0),
-        Op::Diff(a, b) => numbers(Line::DIFF, frame, target, a, b as u64, 0),
-        Op::Scale(a, factor) => numbers(Line::SCALE, frame, target, a, pattern::pattern(factor), 0),
+        Op::Take(s) => numbers(Kind::Take, frame, target, s, 0, 0),
+        Op::Sum(a, b) => numbers(Kind::Sum, frame, target, a, b as u64, 0),
+        Op::Diff(a, b) => numbers(Kind::Diff, frame, target, a, b as u64, 0),
+        Op::Scale(a, factor) => numbers(Kind::Scale, frame, target, a, pattern::pattern(factor), 0),
         Op::Limit(a, low, high) => numbers(
-            Line::LIMIT,
+            Kind::Limit,
             frame,
             target,
             a,
@@ -76,14 +74,14 @@ fn op_line(frame: usize, target: usize, op: Op) -> Line
             pattern::pattern(high),
         ),
         Op::Wind(a, law) => numbers(
-            Line::WIND,
+            Kind::Wind,
             frame,
             target,
             a,
             pattern::pattern(law.rate),
             pattern::pattern(law.cap),
         ),
-        Op::Cam(a) => numbers(Line::CAM, frame, target, a, 0, 0),
+        Op::Cam(a) => numbers(Kind::Cam, frame, target, a, 0, 0),
     }
 }
 
@@ -98,11 +96,9 @@ fn write_tasks(plan: Plan, count: usize, out: &mut [u8], from: usize)
     requires { (count ≤ most_tasks) × (line_size * (from + count) ≤ length out.old) × (from + count ≤ most_text_lines) }
     ensures { out.new ≡ placed out.old (line_size * from) (joined (λ k. row widths (task_line (task_at plan k))) count) }
 {
-    let mut k: usize = 0;
-    while k < count {
+    for k in 0..count {
         let t = plan.tasks[k];
         write_line(out, from + k, task_line(t));
-        k += 1;
     }
 }
 
@@ -110,12 +106,10 @@ fn count_votes(voted: &[bool; Plan::VOTES]) -> usize
     ensures { (result ≡ how_many (λ e. get_or voted.now e false) (most_frames * most_cells)) × (result ≤ most_frames * most_cells) }
 {
     let mut count: usize = 0;
-    let mut e: usize = 0;
-    while e < Plan::VOTES {
+    for e in 0..Plan::VOTES {
         if voted[e] {
             count += 1;
         }
-        e += 1;
     }
     count
 }
@@ -126,7 +120,7 @@ fn vote_line(entry: usize) -> Line
 {
     let frame = plan::step::vote_frame(entry);
     let cell = plan::step::vote_cell(entry);
-    numbers(Line::VOTE, frame, cell, 0, 0, 0)
+    numbers(Kind::Vote, frame, cell, 0, 0, 0)
 }
 
 // The number of the line after the votes is given.
@@ -135,13 +129,11 @@ fn write_votes(voted: &[bool; Plan::VOTES], out: &mut [u8], from: usize) -> usiz
     ensures { (result ≡ from + how_many (λ e. get_or voted.now e false) (most_frames * most_cells)) × (out.new ≡ placed out.old (line_size * from) (joined (λ e. cond (get_or voted.now e false) (row widths (vote_line (vote_frame e) (vote_cell e))) []) (most_frames * most_cells))) }
 {
     let mut i = from;
-    let mut e: usize = 0;
-    while e < Plan::VOTES {
+    for e in 0..Plan::VOTES {
         if voted[e] {
             write_line(out, i, vote_line(e));
             i += 1;
         }
-        e += 1;
     }
     i
 }
@@ -150,10 +142,8 @@ fn write_actuators(table: &[usize; Plan::ACTUATORS], count: usize, out: &mut [u8
     requires { (count ≤ most_actuators) × (line_size * (from + count) ≤ length out.old) × (from + count ≤ most_text_lines) }
     ensures { out.new ≡ placed out.old (line_size * from) (joined (λ i. row widths (actuator_kind ∷ i ∷ get_or table.now i 0 ∷ 0 ∷ 0 ∷ 0 ∷ [])) count) }
 {
-    let mut i: usize = 0;
-    while i < count {
-        write_line(out, from + i, numbers(Line::ACTUATOR, i, table[i], 0, 0, 0));
-        i += 1;
+    for i in 0..count {
+        write_line(out, from + i, numbers(Kind::Actuator, i, table[i], 0, 0, 0));
     }
 }
 
@@ -179,7 +169,7 @@ pub fn write(plan: Plan, out: &mut [u8])
         out,
         0,
         numbers(
-            Line::HEADER,
+            Kind::Header,
             plan.nodes,
             plan.frames,
             cells,

@@ -6,8 +6,8 @@ use Rattle.answer.specs.Tests.{passed, if_passed}
 use Rattle.array.proofs.TestLaws.{split}
 use Rattle.plan.specs.declared.Plan.{Plan}
 use Rattle.card_step.specs.Calls.{writing, card_tests, card_done, card_after, byte_read}
-use Rattle.card.specs.Card.{parts_of, card_of, card_outcome, page_read}
-use Rattle.card_words.specs.Words.{card_of_words, with_card, card_given}
+use Rattle.card.specs.Card.{parts_of, card_of, card_left, page_read}
+use Rattle.card_words.specs.Words.{card_of_words, with_card}
 
 module _ (p : Plan) (ws a b : List ℕ) (at : ℕ) where
   pub read_alike : page_read p (card_of_words ws a) at ≡ page_read p (card_of_words ws b) at
@@ -15,13 +15,6 @@ module _ (p : Plan) (ws a b : List ℕ) (at : ℕ) where
   read_alike = refl
 
   module _ (value : ℕ) where
-    written-words : (now : List ℕ) → with_card (card_outcome p (card_of_words ws a) (writing at value)).card now ≡ with_card (card_outcome p (card_of_words ws b) (writing at value)).card now
-    unfolding with_card card_outcome card_after card_done if_passed card_of parts_of card_of_words
-    written-words now = split (passed (card_tests p (writing at value))) (λ e. rw e) (λ e. rw e)
-
-    pub write-alike :
-        (now : List ℕ) →
-        card_given (card_outcome p (card_of_words ws a) (writing at value)).answer (card_outcome p (card_of_words ws a) (writing at value)).card now
-        ≡ card_given (card_outcome p (card_of_words ws b) (writing at value)).answer (card_outcome p (card_of_words ws b) (writing at value)).card now
-    unfolding card_given card_outcome
-    write-alike now = rw (written-words now)
+    pub write-alike : (now : List ℕ) → with_card (card_left p (card_of_words ws a) (writing at value)) now ≡ with_card (card_left p (card_of_words ws b) (writing at value)) now
+    unfolding with_card card_left card_after card_done if_passed card_of parts_of card_of_words
+    write-alike now = split (passed (card_tests p (writing at value))) (λ e. rw e) (λ e. rw e)

@@ -3,10 +3,11 @@
 #![tactic(auto)]
 
 ghost use Rattle.std.specs.Prelude.{◌≡◌, List, ℕ};
+ghost use Rattle.std.specs.Result.{result_unwrap_or};
 ghost use Rattle.plan_words.specs.Words.{plan_of_words};
 ghost use Rattle.system_words.specs.Words.{code_of};
-ghost use Rattle.card_step.specs.Calls.{writing, delivery, ticking, place_left};
-ghost use Rattle.card.specs.Card.{parts_of, card_power_on, card_outcome, page_read};
+ghost use Rattle.card_step.specs.Calls.{writing, delivery, ticking, card_answer, place_left};
+ghost use Rattle.card.specs.Card.{parts_of, powered_card, card_power_on, card_left, page_read};
 ghost use Rattle.card_words.specs.Words.{card_of_words, card_given, bins_given};
 
 use card::Card;
@@ -17,15 +18,18 @@ pub extern "C" fn ragbasalt_card_power_on(
     card: &mut [u64; card_words::step::CARD],
     bins: &mut [u8; Card::BINS],
 ) -> u64
-    ensures { (result ≡ code_of (card_power_on (plan_of_words plan.now)).answer) × (card.new ≡ card_given (card_power_on (plan_of_words plan.now)).answer (card_power_on (plan_of_words plan.now)).card card.old) × (bins.new ≡ bins_given (card_power_on (plan_of_words plan.now)).answer (card_power_on (plan_of_words plan.now)).card bins.old) }
+    ensures { (result ≡ code_of (card_power_on (plan_of_words plan.now))) × (card.new ≡ card_given (card_power_on (plan_of_words plan.now)) (powered_card (plan_of_words plan.now)) card.old) × (bins.new ≡ bins_given (card_power_on (plan_of_words plan.now)) (powered_card (plan_of_words plan.now)) bins.old) }
 {
     let p = plan_words::step::plan(plan);
-    let made = card::power_on(p);
-    let answer = made.answer;
-    let next = made.card;
-    card_words::step::give_card(answer, next, card);
-    card_words::step::give_bins(answer, next, bins);
-    system_words::step::code(answer)
+    match card::power_on(p) {
+        Ok(k) => {
+            card_words::step::put_card(k, card);
+            let made = k.bins;
+            *bins = made;
+            0
+        }
+        Err(refusal) => system_words::step::code(refusal),
+    }
 }
 
 // The page is of the card's words alone: its bins may be any.
@@ -36,14 +40,20 @@ pub extern "C" fn ragbasalt_card_read(
     at: usize,
     value: &mut u8,
 ) -> u64
-    ensures { (bytes : List ℕ) → (result ≡ code_of (page_read (plan_of_words plan.now) (card_of_words card.now bytes) at).answer) × (value.new ≡ (page_read (plan_of_words plan.now) (card_of_words card.now bytes) at).value) }
+    ensures { (bytes : List ℕ) → (result ≡ code_of (page_read (plan_of_words plan.now) (card_of_words card.now bytes) at)) × (value.new ≡ result_unwrap_or (page_read (plan_of_words plan.now) (card_of_words card.now bytes) at) 0) }
 {
     let p = plan_words::step::plan(plan);
     let k = card_words::step::bare(card);
-    let made = card::read(p, k, at);
-    *value = made.value;
-    let answer = made.answer;
-    system_words::step::code(answer)
+    match card::read(p, &k, at) {
+        Ok(byte) => {
+            *value = byte;
+            0
+        }
+        Err(refusal) => {
+            *value = 0;
+            system_words::step::code(refusal)
+        }
+    }
 }
 
 #[unsafe(no_mangle)]
@@ -53,15 +63,17 @@ pub extern "C" fn ragbasalt_card_write(
     at: usize,
     value: u8,
 ) -> u64
-    ensures { (bytes : List ℕ) → (result ≡ code_of (card_outcome (plan_of_words plan.now) (card_of_words card.old bytes) (writing at value)).answer) × (card.new ≡ card_given (card_outcome (plan_of_words plan.now) (card_of_words card.old bytes) (writing at value)).answer (card_outcome (plan_of_words plan.now) (card_of_words card.old bytes) (writing at value)).card card.old) }
+    ensures { (bytes : List ℕ) → (result ≡ code_of (card_answer (plan_of_words plan.now) (writing at value))) × (card.new ≡ card_given (card_answer (plan_of_words plan.now) (writing at value)) (card_left (plan_of_words plan.now) (card_of_words card.old bytes) (writing at value)) card.old) }
 {
     let p = plan_words::step::plan(plan);
-    let k = card_words::step::bare(card);
-    let made = card::write(p, k, at, value);
-    let answer = made.answer;
-    let next = made.card;
-    card_words::step::give_card(answer, next, card);
-    system_words::step::code(answer)
+    let mut k = card_words::step::bare(card);
+    match card::write(p, &mut k, at, value) {
+        Ok(()) => {
+            card_words::step::put_card(k, card);
+            0
+        }
+        Err(refusal) => system_words::step::code(refusal),
+    }
 }
 
 #[unsafe(no_mangle)]
@@ -72,16 +84,18 @@ pub extern "C" fn ragbasalt_card_deliver(
     number: usize,
     message: &[u8],
 ) -> u64
-    ensures { (result ≡ code_of (card_outcome (plan_of_words plan.now) (card_of_words card.old bins.old) (delivery number message.now)).answer) × (card.new ≡ card_given (card_outcome (plan_of_words plan.now) (card_of_words card.old bins.old) (delivery number message.now)).answer (card_outcome (plan_of_words plan.now) (card_of_words card.old bins.old) (delivery number message.now)).card card.old) × (bins.new ≡ bins_given (card_outcome (plan_of_words plan.now) (card_of_words card.old bins.old) (delivery number message.now)).answer (card_outcome (plan_of_words plan.now) (card_of_words card.old bins.old) (delivery number message.now)).card bins.old) }
+    ensures { (result ≡ code_of (card_answer (plan_of_words plan.now) (delivery number message.now))) × (card.new ≡ card_given (card_answer (plan_of_words plan.now) (delivery number message.now)) (card_left (plan_of_words plan.now) (card_of_words card.old bins.old) (delivery number message.now)) card.old) × (bins.new ≡ bins_given (card_answer (plan_of_words plan.now) (delivery number message.now)) (card_left (plan_of_words plan.now) (card_of_words card.old bins.old) (delivery number message.now)) bins.old) }
 {
     let p = plan_words::step::plan(plan);
-    let k = card_words::step::card(card, bins);
-    let made = card::deliver(p, k, number, message);
-    let answer = made.answer;
-    let next = made.card;
-    card_words::step::give_card(answer, next, card);
-    card_words::step::give_bins(answer, next, bins);
-    system_words::step::code(answer)
+    let mut k = card_words::step::card(card, bins);
+    match card::deliver(p, &mut k, number, message) {
+        Ok(()) => {
+            card_words::step::put_card(k, card);
+            *bins = k.bins;
+            0
+        }
+        Err(refusal) => system_words::step::code(refusal),
+    }
 }
 
 #[unsafe(no_mangle)]
@@ -92,14 +106,16 @@ pub extern "C" fn ragbasalt_card_tick(
     sensors: &[u64],
     setpoints: &mut [u64],
 ) -> u64
-    ensures { (result ≡ code_of (card_outcome (plan_of_words plan.now) (card_of_words card.old bins.old) (ticking sensors.now setpoints.old)).answer) × (card.new ≡ card_given (card_outcome (plan_of_words plan.now) (card_of_words card.old bins.old) (ticking sensors.now setpoints.old)).answer (card_outcome (plan_of_words plan.now) (card_of_words card.old bins.old) (ticking sensors.now setpoints.old)).card card.old) × (bins.new ≡ bins_given (card_outcome (plan_of_words plan.now) (card_of_words card.old bins.old) (ticking sensors.now setpoints.old)).answer (card_outcome (plan_of_words plan.now) (card_of_words card.old bins.old) (ticking sensors.now setpoints.old)).card bins.old) × (setpoints.new ≡ place_left (plan_of_words plan.now) (parts_of (card_of_words card.old bins.old)) sensors.now setpoints.old) }
+    ensures { (result ≡ code_of (card_answer (plan_of_words plan.now) (ticking sensors.now setpoints.old))) × (card.new ≡ card_given (card_answer (plan_of_words plan.now) (ticking sensors.now setpoints.old)) (card_left (plan_of_words plan.now) (card_of_words card.old bins.old) (ticking sensors.now setpoints.old)) card.old) × (bins.new ≡ bins_given (card_answer (plan_of_words plan.now) (ticking sensors.now setpoints.old)) (card_left (plan_of_words plan.now) (card_of_words card.old bins.old) (ticking sensors.now setpoints.old)) bins.old) × (setpoints.new ≡ place_left (plan_of_words plan.now) (parts_of (card_of_words card.old bins.old)) sensors.now setpoints.old) }
 {
     let p = plan_words::step::plan(plan);
-    let k = card_words::step::card(card, bins);
-    let made = card::tick(p, k, sensors, setpoints);
-    let answer = made.answer;
-    let next = made.card;
-    card_words::step::give_card(answer, next, card);
-    card_words::step::give_bins(answer, next, bins);
-    system_words::step::code(answer)
+    let mut k = card_words::step::card(card, bins);
+    match card::tick(p, &mut k, sensors, setpoints) {
+        Ok(()) => {
+            card_words::step::put_card(k, card);
+            *bins = k.bins;
+            0
+        }
+        Err(refusal) => system_words::step::code(refusal),
+    }
 }

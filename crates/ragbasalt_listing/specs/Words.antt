@@ -1,9 +1,6 @@
 -- A run between two lines as words: its system's, its single controller's, its period and the number of its next frame; its plan is handed over by itself. Any words are some run.
-use Rattle.std.specs.Prelude.{List, ℕ, ◌+◌, get_or, set}
-use Rattle.std.proofs.Math.Option
-use Rattle.answer.specs.declared.Answer.{Answer}
-use Rattle.answer.specs.declared.Answer.TheVariants.{Done}
-use Rattle.answer.specs.Tests.{refusal_of}
+use Rattle.std.specs.Prelude.{List, ℕ, ◌+◌, get_or, set, Result}
+use Rattle.answer.specs.declared.Refusal.{Refusal}
 use Rattle.plan.specs.declared.Plan.{Plan}
 use Rattle.lines.specs.declared.Run.{Run}
 use Rattle.system_words.specs.Words.{if_done, memory_count, system_count, memory_at, with_memory, system_of_words, with_system}
@@ -25,10 +22,6 @@ run_of p ws =
 unfoldable pub with_run : ℕ → Run → List ℕ → List ℕ
 with_run n r ws = set (set (with_memory r.single single_at (with_system n r.system ws)) period_at r.period) frame_at r.frame
 
--- a run's words after a call that gives this answer and this run
-unfoldable pub run_given : Answer → ℕ → Run → List ℕ → List ℕ
-run_given a n r ws = if_done a (with_run n r ws) ws
-
--- the answer of a number and a line, for a caller that hands one over; a number that no refusal has counts as not refused
-abbrev pub answer_of : ℕ → ℕ → Answer
-answer_of number line = Option.get_or (refusal_of number line) Done
+-- a run's words after a call that gives this, and this run
+unfoldable pub run_given : {A : Type 0} → Result A Refusal → ℕ → Run → List ℕ → List ℕ
+run_given given n r ws = if_done given (with_run n r ws) ws

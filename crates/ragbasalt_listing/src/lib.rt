@@ -2,13 +2,17 @@
 #![tactic(auto)]
 
 ghost use Rattle.std.specs.Prelude.{◌≡◌, ◌/◌, ◌%◌, length};
+ghost use Rattle.std.specs.Result.{result_unwrap_or};
+ghost use Rattle.answer.specs.Tests.{refusal_of};
 ghost use Rattle.plan.specs.Limits.{most_nodes};
-ghost use Rattle.listing_start.specs.Answers.{start_answer, refusal_written, refusal_place};
-ghost use Rattle.listing.specs.Answers.{next_answer, next_place};
+ghost use Rattle.plan_grammar.specs.Meant.{plan_of};
+ghost use Rattle.listing_start.specs.Answers.{start_of, start_answer, refusal_written, refusal_place};
+ghost use Rattle.listing.specs.Answers.{next_answer, next_run, next_place};
 ghost use Rattle.plan_words.specs.Words.{plan_words, plan_of_words};
 ghost use Rattle.system_words.specs.Words.{code_of, if_done};
-ghost use Rattle.ragbasalt_listing.specs.Words.{answer_of, run_of, run_given};
+ghost use Rattle.ragbasalt_listing.specs.Words.{run_of, run_given};
 
+use answer::Refusal;
 use system::System;
 
 pub mod step;
@@ -19,18 +23,17 @@ pub extern "C" fn ragbasalt_listing_start(
     plan: &mut [u64; plan_words::step::SIZE],
     run: &mut [u64; step::RUN],
 ) -> u64
-    ensures { (result ≡ code_of (start_answer text.now).answer) × (plan.new ≡ if_done (start_answer text.now).answer (plan_words (start_answer text.now).run.plan) plan.old) × (run.new ≡ run_given (start_answer text.now).answer most_nodes (start_answer text.now).run run.old) }
+    ensures { (result ≡ code_of (start_answer text.now)) × (plan.new ≡ if_done (start_answer text.now) (plan_words (plan_of text.now)) plan.old) × (run.new ≡ run_given (start_answer text.now) most_nodes (start_of (plan_of text.now)) run.old) }
 {
-    let started = listing_start::start(text);
-    let answer = started.answer;
-    let made = started.run;
-    step::give_run(answer, System::NODES, made, run);
-    if answer.number() != 0 {
-        return system_words::step::code(answer);
+    match listing_start::start(text) {
+        Ok(started) => {
+            step::put_run(System::NODES, started, run);
+            let words = plan_words::step::words(started.plan);
+            *plan = words;
+            0
+        }
+        Err(refusal) => system_words::step::code(refusal),
     }
-    let words = plan_words::step::words(made.plan);
-    *plan = words;
-    system_words::step::code(answer)
 }
 
 #[unsafe(no_mangle)]
@@ -41,26 +44,31 @@ pub extern "C" fn ragbasalt_listing_next(
     line: &mut [u8],
     count: &mut usize,
 ) -> u64
-    ensures { (result ≡ code_of (next_answer (run_of (plan_of_words plan.now) run.old) rest.now (length line.old)).answer) × (run.new ≡ run_given (next_answer (run_of (plan_of_words plan.now) run.old) rest.now (length line.old)).answer (plan_of_words plan.now).nodes (next_answer (run_of (plan_of_words plan.now) run.old) rest.now (length line.old)).run run.old) × (line.new ≡ next_place (run_of (plan_of_words plan.now) run.old) rest.now line.old) × (count.new ≡ (next_answer (run_of (plan_of_words plan.now) run.old) rest.now (length line.old)).count) }
+    ensures { (result ≡ code_of (next_answer (run_of (plan_of_words plan.now) run.old) rest.now (length line.old))) × (run.new ≡ run_given (next_answer (run_of (plan_of_words plan.now) run.old) rest.now (length line.old)) (plan_of_words plan.now).nodes (next_run (run_of (plan_of_words plan.now) run.old) rest.now (length line.old)) run.old) × (line.new ≡ next_place (run_of (plan_of_words plan.now) run.old) rest.now line.old) × (count.new ≡ result_unwrap_or (next_answer (run_of (plan_of_words plan.now) run.old) rest.now (length line.old)) 0) }
 {
     let p = plan_words::step::plan(plan);
     let nodes = p.nodes;
-    let before = step::run(p, run);
-    let printed = listing::next(before, rest, line);
-    let answer = printed.answer;
-    let after = printed.run;
-    step::give_run(answer, nodes, after, run);
-    *count = printed.count;
-    system_words::step::code(answer)
+    let mut state = step::run(p, run);
+    let printed = listing::next(&mut state, rest, line);
+    *count = printed.unwrap_or(0);
+    match printed {
+        Ok(_) => {
+            step::put_run(nodes, state, run);
+            0
+        }
+        Err(refusal) => system_words::step::code(refusal),
+    }
 }
 
 #[unsafe(no_mangle)]
 pub extern "C" fn ragbasalt_listing_refusal(answer: u64, line: &mut [u8], count: &mut usize) -> u64
-    ensures { (result ≡ code_of (refusal_written (answer_of (answer % 256) (answer / 256)) (length line.old)).answer) × (line.new ≡ refusal_place (answer_of (answer % 256) (answer / 256)) line.old) × (count.new ≡ (refusal_written (answer_of (answer % 256) (answer / 256)) (length line.old)).count) }
+    ensures { (result ≡ code_of (refusal_written (refusal_of (answer % 256) (answer / 256)) (length line.old))) × (line.new ≡ refusal_place (refusal_of (answer % 256) (answer / 256)) line.old) × (count.new ≡ result_unwrap_or (refusal_written (refusal_of (answer % 256) (answer / 256)) (length line.old)) 0) }
 {
-    let refused = step::answer_of(answer as usize % 256, answer as usize / 256);
+    let refused = Refusal::with_number(answer as usize % 256, answer as usize / 256);
     let written = listing_start::refusal(refused, line);
-    *count = written.count;
-    let given = written.answer;
-    system_words::step::code(given)
+    *count = written.unwrap_or(0);
+    match written {
+        Ok(_) => 0,
+        Err(refusal) => system_words::step::code(refusal),
+    }
 }

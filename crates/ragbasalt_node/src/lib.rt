@@ -2,9 +2,11 @@
 #![tactic(auto)]
 
 ghost use Rattle.std.specs.Prelude.{◌≡◌, length};
+ghost use Rattle.std.specs.Result.{result_unwrap_or};
 ghost use Rattle.memory.specs.Size.{message_size};
-ghost use Rattle.system.specs.Single.{single_answer, single_place_after};
-ghost use Rattle.node.specs.Answers.{length_checked, power_on_answer, compute_answer, vote_answer, message_place, setpoint_place};
+ghost use Rattle.memory.specs.Node.{powered_on};
+ghost use Rattle.system.specs.Single.{single_answer, single_memory, single_place_after};
+ghost use Rattle.node.specs.Answers.{length_checked, power_on_answer, compute_memory, vote_answer, vote_memory, message_place, setpoint_place};
 ghost use Rattle.plan_words.specs.Words.{plan_of_words};
 ghost use Rattle.system_words.specs.Words.{code_of, memory_at, memory_given};
 
@@ -13,13 +15,16 @@ pub extern "C" fn ragbasalt_node_power_on(
     plan: &[u64; plan_words::step::SIZE],
     memory: &mut [u64; system_words::step::MEMORY],
 ) -> u64
-    ensures { (result ≡ code_of (power_on_answer (plan_of_words plan.now)).answer) × (memory.new ≡ memory_given (power_on_answer (plan_of_words plan.now)).answer (power_on_answer (plan_of_words plan.now)).memory memory.old) }
+    ensures { (result ≡ code_of (power_on_answer (plan_of_words plan.now))) × (memory.new ≡ memory_given (power_on_answer (plan_of_words plan.now)) (powered_on (plan_of_words plan.now)) memory.old) }
 {
     let p = plan_words::step::plan(plan);
-    let made = node::power_on(p);
-    let answer = made.answer;
-    system_words::step::give_memory(answer, made.memory, memory);
-    system_words::step::code(answer)
+    match node::power_on(p) {
+        Ok(m) => {
+            system_words::step::put_memory(m, 0, memory);
+            0
+        }
+        Err(refusal) => system_words::step::code(refusal),
+    }
 }
 
 #[unsafe(no_mangle)]
@@ -28,14 +33,17 @@ pub extern "C" fn ragbasalt_node_compute(
     memory: &mut [u64; system_words::step::MEMORY],
     sensors: &[u64],
 ) -> u64
-    ensures { (result ≡ code_of (compute_answer (plan_of_words plan.now) (memory_at memory.old 0) sensors.now).answer) × (memory.new ≡ memory_given (compute_answer (plan_of_words plan.now) (memory_at memory.old 0) sensors.now).answer (compute_answer (plan_of_words plan.now) (memory_at memory.old 0) sensors.now).memory memory.old) }
+    ensures { (result ≡ code_of (length_checked (plan_of_words plan.now) (length sensors.now) (plan_of_words plan.now).sensors)) × (memory.new ≡ memory_given (length_checked (plan_of_words plan.now) (length sensors.now) (plan_of_words plan.now).sensors) (compute_memory (plan_of_words plan.now) (memory_at memory.old 0) sensors.now) memory.old) }
 {
     let p = plan_words::step::plan(plan);
-    let m = system_words::step::memory(memory, 0);
-    let made = node::compute(p, m, sensors);
-    let answer = made.answer;
-    system_words::step::give_memory(answer, made.memory, memory);
-    system_words::step::code(answer)
+    let mut m = system_words::step::memory(memory, 0);
+    match node::compute(p, &mut m, sensors) {
+        Ok(()) => {
+            system_words::step::put_memory(m, 0, memory);
+            0
+        }
+        Err(refusal) => system_words::step::code(refusal),
+    }
 }
 
 #[unsafe(no_mangle)]
@@ -48,8 +56,10 @@ pub extern "C" fn ragbasalt_node_message(
 {
     let p = plan_words::step::plan(plan);
     let m = system_words::step::memory(memory, 0);
-    let answer = node::message(p, m, message);
-    system_words::step::code(answer)
+    match node::message(p, m, message) {
+        Ok(()) => 0,
+        Err(refusal) => system_words::step::code(refusal),
+    }
 }
 
 #[unsafe(no_mangle)]
@@ -59,15 +69,21 @@ pub extern "C" fn ragbasalt_node_vote(
     mailbox: &[u8],
     agreement: &mut usize,
 ) -> u64
-    ensures { (result ≡ code_of (vote_answer (plan_of_words plan.now) (memory_at memory.old 0) mailbox.now).answer) × (memory.new ≡ memory_given (vote_answer (plan_of_words plan.now) (memory_at memory.old 0) mailbox.now).answer (vote_answer (plan_of_words plan.now) (memory_at memory.old 0) mailbox.now).memory memory.old) × (agreement.new ≡ (vote_answer (plan_of_words plan.now) (memory_at memory.old 0) mailbox.now).agreement) }
+    ensures { (result ≡ code_of (vote_answer (plan_of_words plan.now) (memory_at memory.old 0) mailbox.now)) × (memory.new ≡ memory_given (vote_answer (plan_of_words plan.now) (memory_at memory.old 0) mailbox.now) (vote_memory (plan_of_words plan.now) (memory_at memory.old 0) mailbox.now) memory.old) × (agreement.new ≡ result_unwrap_or (vote_answer (plan_of_words plan.now) (memory_at memory.old 0) mailbox.now) 0) }
 {
     let p = plan_words::step::plan(plan);
-    let m = system_words::step::memory(memory, 0);
-    let made = node::vote(p, m, mailbox);
-    let answer = made.answer;
-    system_words::step::give_memory(answer, made.memory, memory);
-    *agreement = made.agreement;
-    system_words::step::code(answer)
+    let mut m = system_words::step::memory(memory, 0);
+    match node::vote(p, &mut m, mailbox) {
+        Ok(agreed) => {
+            system_words::step::put_memory(m, 0, memory);
+            *agreement = agreed;
+            0
+        }
+        Err(refusal) => {
+            *agreement = 0;
+            system_words::step::code(refusal)
+        }
+    }
 }
 
 #[unsafe(no_mangle)]
@@ -80,8 +96,10 @@ pub extern "C" fn ragbasalt_node_setpoints(
 {
     let p = plan_words::step::plan(plan);
     let m = system_words::step::memory(memory, 0);
-    let answer = node::setpoints(p, m, setpoints);
-    system_words::step::code(answer)
+    match node::setpoints(p, m, setpoints) {
+        Ok(()) => 0,
+        Err(refusal) => system_words::step::code(refusal),
+    }
 }
 
 // The single controller's frame.
@@ -92,12 +110,15 @@ pub extern "C" fn ragbasalt_single_frame(
     sensors: &[u64],
     setpoints: &mut [u64],
 ) -> u64
-    ensures { (result ≡ code_of (single_answer (plan_of_words plan.now) (memory_at memory.old 0) sensors.now setpoints.old).answer) × (memory.new ≡ memory_given (single_answer (plan_of_words plan.now) (memory_at memory.old 0) sensors.now setpoints.old).answer (single_answer (plan_of_words plan.now) (memory_at memory.old 0) sensors.now setpoints.old).memory memory.old) × (setpoints.new ≡ single_place_after (plan_of_words plan.now) (memory_at memory.old 0) sensors.now setpoints.old) }
+    ensures { (result ≡ code_of (single_answer (plan_of_words plan.now) sensors.now setpoints.old)) × (memory.new ≡ memory_given (single_answer (plan_of_words plan.now) sensors.now setpoints.old) (single_memory (plan_of_words plan.now) (memory_at memory.old 0) sensors.now setpoints.old) memory.old) × (setpoints.new ≡ single_place_after (plan_of_words plan.now) (memory_at memory.old 0) sensors.now setpoints.old) }
 {
     let p = plan_words::step::plan(plan);
-    let m = system_words::step::memory(memory, 0);
-    let made = single::frame(p, m, sensors, setpoints);
-    let answer = made.answer;
-    system_words::step::give_memory(answer, made.memory, memory);
-    system_words::step::code(answer)
+    let mut m = system_words::step::memory(memory, 0);
+    match single::frame(p, &mut m, sensors, setpoints) {
+        Ok(()) => {
+            system_words::step::put_memory(m, 0, memory);
+            0
+        }
+        Err(refusal) => system_words::step::code(refusal),
+    }
 }

@@ -2,7 +2,9 @@
 #![tactic(auto)]
 
 ghost use Rattle.std.specs.Prelude.{◌≡◌, length};
+ghost use Rattle.std.specs.Result.{result_unwrap_or};
 ghost use Rattle.plan.specs.Sizes.{sizes_of};
+ghost use Rattle.plan_grammar.specs.Meant.{plan_of};
 ghost use Rattle.plan_grammar.specs.Written.{plan_text};
 ghost use Rattle.plan_period.specs.Answers.{checked, period_found};
 ghost use Rattle.plan_text.specs.Answers.{read_answer};
@@ -24,16 +26,16 @@ pub extern "C" fn ragbasalt_version_4() -> u64
 
 #[unsafe(no_mangle)]
 pub extern "C" fn ragbasalt_plan_read(text: &[u8], plan: &mut [u64; plan_words::step::SIZE]) -> u64
-    ensures { (result ≡ code_of (read_answer text.now).answer) × (plan.new ≡ if_done (read_answer text.now).answer (plan_words (read_answer text.now).plan) plan.old) }
+    ensures { (result ≡ code_of (read_answer text.now)) × (plan.new ≡ if_done (read_answer text.now) (plan_words (plan_of text.now)) plan.old) }
 {
-    let read = plan_text::read(text);
-    let answer = read.answer;
-    if answer.number() != 0 {
-        return system_words::step::code(answer);
+    match plan_text::read(text) {
+        Ok(p) => {
+            let words = plan_words::step::words(p);
+            *plan = words;
+            0
+        }
+        Err(refusal) => system_words::step::code(refusal),
     }
-    let words = plan_words::step::words(read.plan);
-    *plan = words;
-    system_words::step::code(answer)
 }
 
 #[unsafe(no_mangle)]
@@ -42,13 +44,15 @@ pub extern "C" fn ragbasalt_plan_write(
     text: &mut [u8],
     count: &mut usize,
 ) -> u64
-    ensures { (result ≡ code_of (write_answer (plan_of_words plan.now) (length text.old)).answer) × (text.new ≡ write_place (plan_of_words plan.now) text.old) × (count.new ≡ (write_answer (plan_of_words plan.now) (length text.old)).count) }
+    ensures { (result ≡ code_of (write_answer (plan_of_words plan.now) (length text.old))) × (text.new ≡ write_place (plan_of_words plan.now) text.old) × (count.new ≡ result_unwrap_or (write_answer (plan_of_words plan.now) (length text.old)) 0) }
 {
     let p = plan_words::step::plan(plan);
     let written = plan_text_write::write(p, text);
-    *count = written.count;
-    let answer = written.answer;
-    system_words::step::code(answer)
+    *count = written.unwrap_or(0);
+    match written {
+        Ok(_) => 0,
+        Err(refusal) => system_words::step::code(refusal),
+    }
 }
 
 #[unsafe(no_mangle)]
@@ -56,8 +60,10 @@ pub extern "C" fn ragbasalt_plan_check(plan: &[u64; plan_words::step::SIZE]) -> 
     ensures { result ≡ code_of (checked (plan_of_words plan.now)) }
 {
     let p = plan_words::step::plan(plan);
-    let answer = plan_period::check(p);
-    system_words::step::code(answer)
+    match plan_period::check(p) {
+        Ok(()) => 0,
+        Err(refusal) => system_words::step::code(refusal),
+    }
 }
 
 #[unsafe(no_mangle)]
@@ -65,13 +71,15 @@ pub extern "C" fn ragbasalt_plan_period(
     plan: &[u64; plan_words::step::SIZE],
     period: &mut usize,
 ) -> u64
-    ensures { (result ≡ code_of (period_found (plan_of_words plan.now)).answer) × (period.new ≡ (period_found (plan_of_words plan.now)).period) }
+    ensures { (result ≡ code_of (period_found (plan_of_words plan.now))) × (period.new ≡ result_unwrap_or (period_found (plan_of_words plan.now)) 0) }
 {
     let p = plan_words::step::plan(plan);
     let found = plan_period::recovery_period(p);
-    *period = found.period;
-    let answer = found.answer;
-    system_words::step::code(answer)
+    *period = found.unwrap_or(0);
+    match found {
+        Ok(_) => 0,
+        Err(refusal) => system_words::step::code(refusal),
+    }
 }
 
 #[unsafe(no_mangle)]
@@ -81,13 +89,15 @@ pub extern "C" fn ragbasalt_plan_histories(
     masks: &mut [u8],
     count: &mut usize,
 ) -> u64
-    ensures { (result ≡ code_of (histories_answer (plan_of_words plan.now) frames (length masks.old)).answer) × (masks.new ≡ histories_place (plan_of_words plan.now) frames masks.old) × (count.new ≡ (histories_answer (plan_of_words plan.now) frames (length masks.old)).count) }
+    ensures { (result ≡ code_of (histories_answer (plan_of_words plan.now) frames (length masks.old))) × (masks.new ≡ histories_place (plan_of_words plan.now) frames masks.old) × (count.new ≡ result_unwrap_or (histories_answer (plan_of_words plan.now) frames (length masks.old)) 0) }
 {
     let p = plan_words::step::plan(plan);
     let listed = history::histories(p, frames, masks);
-    *count = listed.count;
-    let answer = listed.answer;
-    system_words::step::code(answer)
+    *count = listed.unwrap_or(0);
+    match listed {
+        Ok(_) => 0,
+        Err(refusal) => system_words::step::code(refusal),
+    }
 }
 
 // ---- sizes: 0 for a plan that 7 refuses
@@ -97,9 +107,9 @@ pub extern "C" fn ragbasalt_message_size(plan: &[u64; plan_words::step::SIZE]) -
     ensures { result ≡ size_of message_size (plan_of_words plan.now) }
 {
     let p = plan_words::step::plan(plan);
-    if plan_period::accepted_period(p) == 0 {
+    let Ok(_) = plan_period::recovery_period(p) else {
         return 0;
-    }
+    };
     memory::step::message_size(p.cells)
 }
 
@@ -108,9 +118,9 @@ pub extern "C" fn ragbasalt_mailbox_size(plan: &[u64; plan_words::step::SIZE]) -
     ensures { result ≡ size_of mailbox_size (plan_of_words plan.now) }
 {
     let p = plan_words::step::plan(plan);
-    if plan_period::accepted_period(p) == 0 {
+    let Ok(_) = plan_period::recovery_period(p) else {
         return 0;
-    }
+    };
     memory::step::bin_at(p.nodes, p.cells)
 }
 
@@ -119,11 +129,10 @@ pub extern "C" fn ragbasalt_faults_size(plan: &[u64; plan_words::step::SIZE]) ->
     ensures { result ≡ size_of (λ p. faults_size (sizes_of p)) (plan_of_words plan.now) }
 {
     let p = plan_words::step::plan(plan);
-    let found = plan_period::accepted_period(p);
-    if found == 0 {
+    let Ok(period) = plan_period::recovery_period(p) else {
         return 0;
-    }
-    let sizes = plan::sizes_with(p, found);
+    };
+    let sizes = plan::sizes_with(p, period);
     faults::step::size(sizes)
 }
 
@@ -132,8 +141,8 @@ pub extern "C" fn ragbasalt_text_size(plan: &[u64; plan_words::step::SIZE]) -> u
     ensures { result ≡ size_of (λ p. length (plan_text p)) (plan_of_words plan.now) }
 {
     let p = plan_words::step::plan(plan);
-    if plan_period::accepted_period(p) == 0 {
+    let Ok(_) = plan_period::recovery_period(p) else {
         return 0;
-    }
+    };
     plan_writer::step::text_size(p)
 }

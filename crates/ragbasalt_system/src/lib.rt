@@ -3,6 +3,7 @@
 #![tactic(auto)]
 
 ghost use Rattle.std.specs.Prelude.{◌≡◌};
+ghost use Rattle.std.specs.Result.{result_unwrap_or};
 ghost use Rattle.system.specs.CountCalls.{working_answer, equal_answer};
 ghost use Rattle.plan_words.specs.Words.{plan_of_words};
 ghost use Rattle.system_words.specs.Words.{code_of, memory_at, system_of_words};
@@ -16,13 +17,16 @@ pub extern "C" fn ragbasalt_system_power_on(
     plan: &[u64; plan_words::step::SIZE],
     system: &mut [u64; system_words::step::SYSTEM],
 ) -> u64
-    ensures { (result ≡ code_of (started_by plan.now).answer) × (system.new ≡ words_started plan.now system.old) }
+    ensures { (result ≡ code_of (started_by plan.now)) × (system.new ≡ words_started plan.now system.old) }
 {
     let p = plan_words::step::plan(plan);
-    let made = System::power_on(p);
-    let answer = made.answer;
-    system_words::step::give_system(answer, System::NODES, made.system, system);
-    system_words::step::code(answer)
+    match System::power_on(p) {
+        Ok(s) => {
+            system_words::step::put_system(System::NODES, s, system);
+            0
+        }
+        Err(refusal) => system_words::step::code(refusal),
+    }
 }
 
 // The words of the plan's nodes and of what the plane remembers are those of the record after the frame; all others stay.
@@ -36,16 +40,22 @@ pub extern "C" fn ragbasalt_system_frame(
     setpoints: &mut [u64],
     agreement: &mut usize,
 ) -> u64
-    ensures { (result ≡ code_of (framed_by plan.now system.old sensors.now mask faults.now setpoints.old).answer) × (system.new ≡ words_framed plan.now system.old sensors.now mask faults.now setpoints.old) × (setpoints.new ≡ place_framed plan.now system.old sensors.now mask faults.now setpoints.old) × (agreement.new ≡ (framed_by plan.now system.old sensors.now mask faults.now setpoints.old).agreement) }
+    ensures { (result ≡ code_of (framed_by plan.now system.old sensors.now mask faults.now setpoints.old)) × (system.new ≡ words_framed plan.now system.old sensors.now mask faults.now setpoints.old) × (setpoints.new ≡ place_framed plan.now system.old sensors.now mask faults.now setpoints.old) × (agreement.new ≡ result_unwrap_or (framed_by plan.now system.old sensors.now mask faults.now setpoints.old) 0) }
 {
     let p = plan_words::step::plan(plan);
-    let s = system_words::step::system(system);
+    let mut s = system_words::step::system(system);
     let nodes = p.nodes;
-    let made = frame::frame(p, s, sensors, mask, faults, setpoints);
-    let answer = made.answer;
-    system_words::step::give_system(answer, nodes, made.system, system);
-    *agreement = made.agreement;
-    system_words::step::code(answer)
+    match frame::frame(p, &mut s, sensors, mask, faults, setpoints) {
+        Ok(agreed) => {
+            system_words::step::put_system(nodes, s, system);
+            *agreement = agreed;
+            0
+        }
+        Err(refusal) => {
+            *agreement = 0;
+            system_words::step::code(refusal)
+        }
+    }
 }
 
 #[unsafe(no_mangle)]
@@ -55,14 +65,20 @@ pub extern "C" fn ragbasalt_system_working(
     mask: u64,
     count: &mut usize,
 ) -> u64
-    ensures { (result ≡ code_of (working_answer (plan_of_words plan.now) (system_of_words system.now) mask).answer) × (count.new ≡ (working_answer (plan_of_words plan.now) (system_of_words system.now) mask).count) }
+    ensures { (result ≡ code_of (working_answer (plan_of_words plan.now) (system_of_words system.now) mask)) × (count.new ≡ result_unwrap_or (working_answer (plan_of_words plan.now) (system_of_words system.now) mask) 0) }
 {
     let p = plan_words::step::plan(plan);
     let s = system_words::step::system(system);
-    let made = count_calls::working(p, s, mask);
-    *count = made.count;
-    let answer = made.answer;
-    system_words::step::code(answer)
+    match count_calls::working(p, s, mask) {
+        Ok(counted) => {
+            *count = counted;
+            0
+        }
+        Err(refusal) => {
+            *count = 0;
+            system_words::step::code(refusal)
+        }
+    }
 }
 
 #[unsafe(no_mangle)]
@@ -72,13 +88,19 @@ pub extern "C" fn ragbasalt_system_equal(
     memory: &[u64; system_words::step::MEMORY],
     count: &mut usize,
 ) -> u64
-    ensures { (result ≡ code_of (equal_answer (plan_of_words plan.now) (system_of_words system.now) (memory_at memory.now 0)).answer) × (count.new ≡ (equal_answer (plan_of_words plan.now) (system_of_words system.now) (memory_at memory.now 0)).count) }
+    ensures { (result ≡ code_of (equal_answer (plan_of_words plan.now) (system_of_words system.now) (memory_at memory.now 0))) × (count.new ≡ result_unwrap_or (equal_answer (plan_of_words plan.now) (system_of_words system.now) (memory_at memory.now 0)) 0) }
 {
     let p = plan_words::step::plan(plan);
     let s = system_words::step::system(system);
     let m = system_words::step::memory(memory, 0);
-    let made = count_calls::equal(p, s, m);
-    *count = made.count;
-    let answer = made.answer;
-    system_words::step::code(answer)
+    match count_calls::equal(p, s, m) {
+        Ok(counted) => {
+            *count = counted;
+            0
+        }
+        Err(refusal) => {
+            *count = 0;
+            system_words::step::code(refusal)
+        }
+    }
 }

@@ -1,8 +1,6 @@
 -- The code's own: the vote on the counters of all nodes, by what each hears. No definition of document 01 cites these.
-use Rattle.std.specs.Prelude.{◌≡◌, Bool, true, cond, List, ℕ, suc, ◌+◌, ◌-◌, ◌%◌, ◌<◌, ltb, length, get_or}
-use Rattle.std.proofs.Math.Option.{Option, none, some}
+use Rattle.std.specs.Prelude.{◌≡◌, Bool, true, cond, List, ℕ, suc, ◌+◌, ◌-◌, ◌%◌, ◌<◌, ltb, length, get_or, Option, None, Some}
 use Rattle.plan.specs.declared.Sizes.{Sizes}
-use Rattle.plan.specs.Limits.{most_frames}
 use Rattle.ballot.specs.Majority.{majority, agreement, or_own}
 use Rattle.row_word.specs.Code.{heard_word}
 
@@ -19,10 +17,10 @@ pub record Put (place : ℕ → ℕ) (take : ℕ → Bool) (x : ℕ → ℕ) (n 
 abbrev pub frame_before : ℕ → ℕ → ℕ
 frame_before frames counter = (counter + frames - 1) % frames
 
--- the frame in which all good nodes vote, where their counter is decided; else no frame
-unfoldable pub agreed_frame : ℕ → Option ℕ → ℕ
-agreed_frame frames none = most_frames
-agreed_frame frames (some x) = cond (ltb x frames) (frame_before frames x) most_frames
+-- the frame in which all good nodes vote, where their counter is decided
+unfoldable pub agreed_frame : ℕ → Option ℕ → Option ℕ
+agreed_frame frames None = None
+agreed_frame frames (Some x) = cond (ltb x frames) (Some (frame_before frames x)) None
 
 -- node i's counter after the vote, and its agreement on it
 module _ (s : Sizes) (mask : ℕ) (faults : List ℕ) where

@@ -1,9 +1,8 @@
 -- Laws of a frame on rows: what every node hears is what its mailbox says, and the phases give the record of the definitions.
+use Rattle.std.specs.Prelude.{Option, Some, unwrap_or}
 use mathlib.Core.Path.{◌≡◌, refl, sym, ap, ◌∙◌, subst}
 use mathlib.Core.Bool.{Bool, true, false, cond}
 use mathlib.Core.List.{List}
-use mathlib.Core.Option
-use mathlib.Core.Option.{Option, some}
 use Prim.Native.Nat.{ℕ, suc, ◌+◌, ◌^◌, ◌≤◌, ◌<◌}
 use native.Mathlib.Omega.{arith}
 use lib.Dec.{eqb, ltb}
@@ -196,7 +195,7 @@ module _
           (counter_from-part p.cells faults (fault_message_at (sizes_of p) j i)
           ∙ sym (counter_in-bin p bin p.nodes bin-sizes j l ∙ ap (λ (b : List ℕ). counter_from b 0) (bin-bad j t))))
           (λ t. rw t
-          (ap some (own-counter j l)
+          (ap Some (own-counter j l)
           ∙ sym (counter_in-bin p bin p.nodes bin-sizes j l ∙ ap (λ (b : List ℕ). counter_from b 0) (bin-good j t)
           ∙ counter_from-message p (own j) (omega (arith, computed-small p sensors (memory_of sys j) shape.frames-pos, shape.frames-le)))))
 
@@ -214,7 +213,7 @@ module _
           (cell_from-part p.cells faults (fault_message_at (sizes_of p) j i) c k
           ∙ sym (cell_in-bin p bin p.nodes bin-sizes j l c k ∙ ap (λ (b : List ℕ). cell_from b c 0) (bin-bad j t))))
           (λ t. rw t
-          (ap some (sent_is c j k l)
+          (ap Some (sent_is c j k l)
           ∙ sym (cell_in-bin p bin p.nodes bin-sizes j l c k ∙ ap (λ (b : List ℕ). cell_from b c 0) (bin-good j t)
           ∙ cell_from-message p (own j) c k (rw (← (own-word j c l (omega (arith, shape.cells-le)))) (bounded (word_place (suc j) c))))))
 
@@ -243,11 +242,11 @@ module _
         (counter-heard i) (word-heard i))
 
     pub frame-agreed :
-        {r : ℕ} → r ≡ Option.get_or (least (is_good mask) (row_agreement p.voted (sizes_of p) mask faults counters cells) p.nodes) 0 →
+        {r : ℕ} → r ≡ unwrap_or (least (is_good mask) (row_agreement p.voted (sizes_of p) mask faults counters cells) p.nodes) 0 →
         r ≡ frame_agreement p sys sensors mask faults
     unfolding frame_agreement
     frame-agreed h =
-        h ∙ ap (λ (o : Option ℕ). Option.get_or o 0) (least-same (is_good mask) (is_good mask) _ _ p.nodes (λ i l. refl) (λ i l t. agreement-after i l))
+        h ∙ ap (λ (o : Option ℕ). unwrap_or o 0) (least-same (is_good mask) (is_good mask) _ _ p.nodes (λ i l. refl) (λ i l t. agreement-after i l))
 
     module _ (counters' cells' : List ℕ) (closed : Through (p.nodes + 1) (closed_row p.voted (sizes_of p) mask faults counters cells) counters cells counters' cells') where
       node-after : (i : ℕ) → i < p.nodes → memory_in counters' cells' (suc i) ≡ memory_after p sys sensors mask faults i
@@ -259,7 +258,7 @@ module _
           split (bit mask j)
           (λ t. rw t)
           (λ t. rw t
-          (ap some
+          (ap Some
           (sym (row_at cells' (suc j) (get_or p.actuator_cell a 0) (omega (arith, shape.actuator a l, shape.cells-le)))
           ∙ ap (λ (m : Memory). get_or m.cells (get_or p.actuator_cell a 0) 0) (node-after j k))))
 
@@ -313,7 +312,7 @@ pub framed :
     Through (s.nodes + 1) (closed_row p.voted s mask faults counters₁ cells₁) counters₁ cells₁ counters₂ cells₂ →
     seen' ≡ fill (handed_from p.actuator_cell s mask faults cells₂ seen) s.actuators seen →
     good' ≡ fill (good_after s.period mask good) s.nodes good →
-    agreed ≡ Option.get_or (least (is_good mask) (row_agreement p.voted s mask faults counters₁ cells₁) s.nodes) 0 →
+    agreed ≡ unwrap_or (least (is_good mask) (row_agreement p.voted s mask faults counters₁ cells₁) s.nodes) 0 →
     ((sys : System) → Rows sys counters cells good seen → Rows (system_after p sys sensors mask faults) counters₂ cells₂ good' seen' × (agreed ≡ frame_agreement p sys sensors mask faults))
     × (memory_in counters₂ cells₂ 0 ≡ cond (eqb first 0) (computed p sensors (memory_in counters cells 0)) (memory_in counters cells 0))
 framed p accept s e first few sensors mask faults counters cells counters₁ cells₁ counters₂ cells₂ good good' seen seen' agreed tasks bounded =
@@ -322,7 +321,7 @@ framed p accept s e first few sensors mask faults counters cells counters₁ cel
     Through (z.nodes + 1) (closed_row p.voted z mask faults counters₁ cells₁) counters₁ cells₁ counters₂ cells₂ →
     seen' ≡ fill (handed_from p.actuator_cell z mask faults cells₂ seen) z.actuators seen →
     good' ≡ fill (good_after z.period mask good) z.nodes good →
-    agreed ≡ Option.get_or (least (is_good mask) (row_agreement p.voted z mask faults counters₁ cells₁) z.nodes) 0 →
+    agreed ≡ unwrap_or (least (is_good mask) (row_agreement p.voted z mask faults counters₁ cells₁) z.nodes) 0 →
     ((sys : System) → Rows sys counters cells good seen → Rows (system_after p sys sensors mask faults) counters₂ cells₂ good' seen' × (agreed ≡ frame_agreement p sys sensors mask faults))
     × (memory_in counters₂ cells₂ 0 ≡ cond (eqb first 0) (computed p sensors (memory_in counters cells 0)) (memory_in counters cells 0)))
     (sym e)

@@ -1,8 +1,8 @@
 -- Laws of what is put out: a good node's word, a bad node's pattern in the fault bytes, and what the plane hands on of them.
+use Rattle.std.specs.Prelude.{Option, Some}
 use mathlib.Core.Path.{◌≡◌, sym, ap, ◌∙◌}
 use mathlib.Core.Bool.{true, false}
 use mathlib.Core.List.{List}
-use mathlib.Core.Option.{Option, some}
 use Prim.Native.Nat.{ℕ, ◌+◌, ◌*◌, ◌≤◌, ◌<◌}
 use native.Mathlib.Omega.{arith}
 use native.Mathlib.Numerals.{add-one}
@@ -25,12 +25,12 @@ pub setpoint-in : (s : Sizes) (mask len j a : ℕ) {at : ℕ} → Parts s mask l
 setpoint-in s mask len j a h l t k e = omega (arith, h j l t, setpoint-room s j a k)
 
 module _ (s : Sizes) (mask : ℕ) (faults cells : List ℕ) (cell a j : ℕ) {w : ℕ} where
-  pub put-bad : {at : ℕ} → bit mask j ≡ true → at ≡ fault_setpoint_at s j a → w ≡ be pattern_size faults at → put_from s mask faults cells cell a j ≡ some w
+  pub put-bad : {at : ℕ} → bit mask j ≡ true → at ≡ fault_setpoint_at s j a → w ≡ be pattern_size faults at → put_from s mask faults cells cell a j ≡ Some w
   unfolding fault_setpoint
-  put-bad t e f = rw t (ap some (rw (← e) (sym f)))
+  put-bad t e f = rw t (ap Some (rw (← e) (sym f)))
 
-  pub put-good : bit mask j ≡ false → w ≡ get_or cells (most_cells * (j + 1) + cell) 0 → put_from s mask faults cells cell a j ≡ some w
-  put-good t f = rw t (ap some (rw (← add-one j) (sym f)))
+  pub put-good : bit mask j ≡ false → w ≡ get_or cells (most_cells * (j + 1) + cell) 0 → put_from s mask faults cells cell a j ≡ Some w
+  put-good t f = rw t (ap Some (rw (← add-one j) (sym f)))
 
 -- the plane on what was told
 pub plane-told : (bin : ℕ → Option ℕ) (n : ℕ) (values : List ℕ) {x r v : ℕ} → Told bin n values → x ≡ r → v ≡ plane (packed values n) n x → v ≡ plane bin n r

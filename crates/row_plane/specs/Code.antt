@@ -1,6 +1,5 @@
 -- The code's own: what is put out and handed on, by the rows. No definition of document 01 cites these.
-use Rattle.std.specs.Prelude.{cond, List, ℕ, suc, get_or}
-use Rattle.std.proofs.Math.Option.{Option, some}
+use Rattle.std.specs.Prelude.{cond, List, ℕ, suc, get_or, Option, Some}
 use Rattle.array.specs.Bit.{bit}
 use Rattle.plan.specs.declared.Sizes.{Sizes}
 use Rattle.system.specs.Fault.{fault_setpoint}
@@ -9,7 +8,7 @@ use Rattle.rows.specs.Code.{word_place}
 
 -- what node j puts out for actuator a, whose cell is `cell`
 abbrev pub put_from : Sizes → ℕ → List ℕ → List ℕ → ℕ → ℕ → ℕ → Option ℕ
-put_from s mask faults cells cell a j = cond (bit mask j) (fault_setpoint s faults j a) (some (get_or cells (word_place (suc j) cell) 0))
+put_from s mask faults cells cell a j = cond (bit mask j) (fault_setpoint s faults j a) (Some (get_or cells (word_place (suc j) cell) 0))
 
 -- what the plane hands on for actuator a, whose cell the table tells
 abbrev pub handed_from : List ℕ → Sizes → ℕ → List ℕ → List ℕ → List ℕ → ℕ → ℕ

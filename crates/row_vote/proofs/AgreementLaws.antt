@@ -1,9 +1,8 @@
 -- Laws of the agreement on rows: counter and columns together give the frame's least.
+use Rattle.std.specs.Prelude.{Option, Some, unwrap_or}
 use mathlib.Core.Path.{◌≡◌, refl, sym, ap, ◌∙◌}
 use mathlib.Core.Bool.{Bool, true, false, not, cond}
 use mathlib.Core.List.{List}
-use mathlib.Core.Option
-use mathlib.Core.Option.{Option, some}
 use Prim.Native.Nat.{ℕ, zero, suc, ◌+◌, ◌≤◌, ◌<◌}
 use native.Mathlib.Omega.{arith}
 use native.Mathlib.Nat.{not-suc-le-zero}
@@ -17,7 +16,6 @@ use Rattle.array.specs.Bit.{bit}
 use Rattle.array.proofs.TestLaws.{split, and_left, and_right, and_both}
 use Rattle.array.proofs.LeastLaws.{least-below, least-of, least-missing, least-of-taken}
 use Rattle.plan.specs.declared.Sizes.{Sizes}
-use Rattle.plan.specs.Limits.{most_frames}
 use Rattle.ballot.specs.Majority.{majority}
 use Rattle.ballot.proofs.MajorityLaws.{no-some, holders-some, majority-some}
 use Rattle.ballot.proofs.AgreementLaws.{agreement-bound}
@@ -28,7 +26,7 @@ use Rattle.row_vote.specs.Code.{voted_at, sent_word, takes, word_agreement, sent
 use Rattle.row_vote.proofs.VoteLaws.{agreed-some}
 
 -- a value that is decided has a good sender
-decided-good : (mask n : ℕ) (w : ℕ → ℕ) (x : ℕ) → majority (good_only mask w) n ≡ some x → (j : ℕ) × (j < n) × (is_good mask j ≡ true)
+decided-good : (mask n : ℕ) (w : ℕ → ℕ) (x : ℕ) → majority (good_only mask w) n ≡ Some x → (j : ℕ) × (j < n) × (is_good mask j ≡ true)
 decided-good mask n w x e =
     let h = holders-some (good_only mask w) n x (omega (arith, majority-some (good_only mask w) n x e)) in
     (h.0, h.1, split (bit mask h.0) (λ t. absurd (no-some (sym (good_none mask w h.0 (rw t)) ∙ h.2))) (λ t. rw t))
@@ -36,10 +34,10 @@ decided-good mask n w x e =
 -- where a frame is agreed, one is good
 pub agreed-good :
     (s : Sizes) (mask : ℕ) (counters : List ℕ) {r : ℕ} →
-    r ≡ agreed_frame s.frames (majority (good_only mask (λ j. get_or counters (suc j) 0)) s.nodes) → r < most_frames →
+    Some r ≡ agreed_frame s.frames (majority (good_only mask (λ j. get_or counters (suc j) 0)) s.nodes) →
     (j : ℕ) × (j < s.nodes) × (is_good mask j ≡ true)
-agreed-good s mask counters e l =
-    let a = agreed-some s.frames _ e l in
+agreed-good s mask counters e =
+    let a = agreed-some s.frames _ e in
     decided-good mask s.nodes (λ j. get_or counters (suc j) 0) a.0 a.1
 
 -- ---- column by column
@@ -122,7 +120,7 @@ module _
       abbrev given : ℕ
       given = columns_least votes s mask faults sent frame cells low s.cells
 
-      pub rows-agreed : (j : ℕ) → j < s.nodes → is_good mask j ≡ true → given ≡ Option.get_or all 0
+      pub rows-agreed : (j : ℕ) → j < s.nodes → is_good mask j ≡ true → given ≡ unwrap_or all 0
       unfolding counter_agreement
       rows-agreed j l g =
           omega (
@@ -154,7 +152,7 @@ module _
           up = least-below (is_good mask) counter s.nodes s.nodes given (omega (arith, down.0, counted))
 
       -- or 0 where all are bad
-      pub rows-least : {a r : ℕ} → a ≡ given → r ≡ cond (all_below (λ j. bit mask j) s.nodes) 0 a → r ≡ Option.get_or all 0
+      pub rows-least : {a r : ℕ} → a ≡ given → r ≡ cond (all_below (λ j. bit mask j) s.nodes) 0 a → r ≡ unwrap_or all 0
       rows-least {a} e =
           split (all_below (λ j. bit mask j) s.nodes)
           (λ t. rw t (λ h. h ∙ rw (least-missing (is_good mask) row s.nodes (λ j l. ap not (all_below-at (λ k. bit mask k) s.nodes j l t)))))

@@ -1,9 +1,8 @@
 -- Laws of what is decided once, for a cell: each way through the code leaves what each good node would have counted.
+use Rattle.std.specs.Prelude.{Option, None, Some, unwrap_or}
 use mathlib.Core.Path.{◌≡◌, refl, sym, ap, ◌∙◌}
 use mathlib.Core.Bool.{Bool, true}
 use mathlib.Core.List.{List}
-use mathlib.Core.Option
-use mathlib.Core.Option.{Option, none, some}
 use Prim.Native.Nat.{ℕ, suc, ◌<◌}
 use lib.ListN.{get_or}
 use Rattle.array.specs.Index.{lesser, least}
@@ -24,9 +23,9 @@ use Rattle.row_vote.proofs.HeardLaws.{word-decided, word-alone, word_read}
 -- what each node counts of words that were read is what it counts of what was sent
 pub cell-counted :
     (votes : List Bool) (s : Sizes) (mask : ℕ) (faults : List ℕ) (sent : ℕ → ℕ) (cells : List ℕ) (c : ℕ) (words : List ℕ) →
-    Told (λ j. some (sent_word votes sent cells c j)) s.nodes words →
+    Told (λ j. Some (sent_word votes sent cells c j)) s.nodes words →
     (frame : ℕ → ℕ) {cells' : List ℕ} →
-    Put (λ i. word_place (suc i) c) (takes votes mask frame c) (λ i. Option.get_or (majority (heard_word s mask faults (λ j. get_or words j 0) (suc c) i) s.nodes) (get_or cells (word_place (suc i) c) 0)) s.nodes cells cells' →
+    Put (λ i. word_place (suc i) c) (takes votes mask frame c) (λ i. unwrap_or (majority (heard_word s mask faults (λ j. get_or words j 0) (suc c) i) s.nodes) (get_or cells (word_place (suc i) c) 0)) s.nodes cells cells' →
     Put (λ i. word_place (suc i) c) (takes votes mask frame c) (word_after votes s mask faults sent cells c) s.nodes cells cells'
 cell-counted votes s mask faults sent cells c words told frame {cells'} p =
     put_same (λ i. word_place (suc i) c) (takes votes mask frame c) (takes votes mask frame c) _ (word_after votes s mask faults sent cells c) s.nodes cells cells' (λ j l. refl)
@@ -35,7 +34,7 @@ cell-counted votes s mask faults sent cells c words told frame {cells'} p =
 -- and so is its agreement
 pub cell-least :
     (votes : List Bool) (s : Sizes) (mask : ℕ) (faults : List ℕ) (sent : ℕ → ℕ) (cells : List ℕ) (c : ℕ) (words : List ℕ) →
-    Told (λ j. some (sent_word votes sent cells c j)) s.nodes words →
+    Told (λ j. Some (sent_word votes sent cells c j)) s.nodes words →
     (frame : ℕ → ℕ) (low : ℕ) {a : ℕ} →
     a ≡ lesser low (least (takes votes mask frame c) (λ i. agreement (heard_word s mask faults (λ j. get_or words j 0) (suc c) i) s.nodes) s.nodes) →
     a ≡ lesser low (least (takes votes mask frame c) (word_agreement votes s mask faults sent cells c) s.nodes)
@@ -46,7 +45,7 @@ cell-least votes s mask faults sent cells c words told frame low h =
 
 module _
     (votes : List Bool) (s : Sizes) (mask : ℕ) (faults : List ℕ) (sent : ℕ → ℕ) (cells : List ℕ) (c : ℕ) (words : List ℕ)
-    (told : Told (λ j. some (sent_word votes sent cells c j)) s.nodes words) {o : Option ℕ} (d : o ≡ majority (good_only mask (λ j. get_or words j 0)) s.nodes)
+    (told : Told (λ j. Some (sent_word votes sent cells c j)) s.nodes words) {o : Option ℕ} (d : o ≡ majority (good_only mask (λ j. get_or words j 0)) s.nodes)
     (low : ℕ)
   where
     abbrev place : ℕ → ℕ
@@ -73,7 +72,7 @@ module _
 
     pub cell-each :
         (frame : ℕ → ℕ) {a : ℕ} {cells' : List ℕ} → ((i : ℕ) → i < s.nodes → voted_at votes (frame i) c ≡ true) →
-        Put place (takes votes mask frame c) (λ i. Option.get_or (majority (heard_word s mask faults (λ j. get_or words j 0) (suc c) i) s.nodes) (get_or cells (place i) 0)) s.nodes cells cells' →
+        Put place (takes votes mask frame c) (λ i. unwrap_or (majority (heard_word s mask faults (λ j. get_or words j 0) (suc c) i) s.nodes) (get_or cells (place i) 0)) s.nodes cells cells' →
         a ≡ lesser low (least (takes votes mask frame c) (λ i. agreement (heard_word s mask faults (λ j. get_or words j 0) (suc c) i) s.nodes) s.nodes) →
         Voted a cells'
     unfolding word_agreement
@@ -87,7 +86,7 @@ module _
         takes_all : (j : ℕ) → voted_at votes (frame j) c ≡ true → takes votes mask frame c j ≡ is_good mask j
         takes_all j v = split (is_good mask j) (λ t. rw (t, v)) (λ t. rw t)
 
-    pub cell-none : o ≡ none → mask ≡ 0 → 0 < s.nodes → Voted 0 cells
+    pub cell-none : o ≡ None → mask ≡ 0 → 0 < s.nodes → Voted 0 cells
     unfolding word_agreement
     cell-none e z pos = (
       put-idle place (is_good mask) (word_after votes s mask faults sent cells c) s.nodes cells (λ j l t. word-alone s mask faults j votes sent cells c (told_of ∙ e) z),
@@ -95,7 +94,7 @@ module _
     )
 
     pub cell-some :
-        (x : ℕ) {a : ℕ} {cells' : List ℕ} → o ≡ some x → Put place (is_good mask) (λ j. x) s.nodes cells cells' →
+        (x : ℕ) {a : ℕ} {cells' : List ℕ} → o ≡ Some x → Put place (is_good mask) (λ j. x) s.nodes cells cells' →
         a ≡ lesser low (least (is_good mask) (λ i. holders (heard_word s mask faults (λ j. get_or words j 0) (suc c) i) s.nodes x) s.nodes) →
         Voted a cells'
     unfolding word_agreement

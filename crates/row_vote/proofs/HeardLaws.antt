@@ -1,9 +1,8 @@
 -- Laws of what is heard of a cell: what more than half sent as good nodes is what every good node votes, and with no bad node all hear the same.
+use Rattle.std.specs.Prelude.{Option, None, Some, unwrap_or}
 use mathlib.Core.Path.{◌≡◌, sym, ap, ◌∙◌}
 use mathlib.Core.Bool.{Bool, not, cond, ◌&&◌}
 use mathlib.Core.List.{List}
-use mathlib.Core.Option
-use mathlib.Core.Option.{Option, none, some}
 use Prim.Native.Nat.{ℕ, suc, ◌+◌}
 use native.Mathlib.Numerals.{add-one}
 use lib.ListN.{get_or}
@@ -25,22 +24,22 @@ module _ (s : Sizes) (mask : ℕ) (faults : List ℕ) (i : ℕ) where
     abbrev old : ℕ
     old = get_or cells (word_place (suc i) c) 0
 
-    pub word-decided : (x : ℕ) → majority (good_only mask word) s.nodes ≡ some x → word_after votes s mask faults sent cells c i ≡ x
+    pub word-decided : (x : ℕ) → majority (good_only mask word) s.nodes ≡ Some x → word_after votes s mask faults sent cells c i ≡ x
     unfolding word_after
     word-decided x e =
-        ap (λ (o : Option ℕ). Option.get_or o old) (heard-decided mask s.nodes (fault_word s mask faults (suc c) i) word x e)
+        ap (λ (o : Option ℕ). unwrap_or o old) (heard-decided mask s.nodes (fault_word s mask faults (suc c) i) word x e)
 
-    pub word-alone : majority (good_only mask word) s.nodes ≡ none → mask ≡ 0 → word_after votes s mask faults sent cells c i ≡ old
+    pub word-alone : majority (good_only mask word) s.nodes ≡ None → mask ≡ 0 → word_after votes s mask faults sent cells c i ≡ old
     unfolding word_after
     word-alone e z =
-        ap (λ (o : Option ℕ). Option.get_or o old) (heard-alone mask s.nodes (fault_word s mask faults (suc c) i) word z ∙ e)
+        ap (λ (o : Option ℕ). unwrap_or o old) (heard-alone mask s.nodes (fault_word s mask faults (suc c) i) word z ∙ e)
 
     pub word_read :
-        (words : List ℕ) → Told (λ j. some (word j)) s.nodes words →
-        Option.get_or (majority (heard_word s mask faults (λ j. get_or words j 0) (suc c) i) s.nodes) old ≡ word_after votes s mask faults sent cells c i
+        (words : List ℕ) → Told (λ j. Some (word j)) s.nodes words →
+        unwrap_or (majority (heard_word s mask faults (λ j. get_or words j 0) (suc c) i) s.nodes) old ≡ word_after votes s mask faults sent cells c i
     unfolding word_after
     word_read words t =
-        ap (λ (o : Option ℕ). Option.get_or o old)
+        ap (λ (o : Option ℕ). unwrap_or o old)
         (sym (heard-same mask s.nodes word (λ j. get_or words j 0) (told-word word s.nodes words t) (fault_word s mask faults (suc c) i)))
 
 -- what the code reads of a cell is what its node sends
@@ -55,7 +54,7 @@ sent-read votes sent cells c j e a h = sym (h ∙ rw (e, a, add-one j))
 -- what a receiver takes of words that it counted, where its own is as it was
 pub counted-old :
     (bin : ℕ → Option ℕ) (n : ℕ) {values : List ℕ} {k now old r : ℕ} {voted : Option ℕ} →
-    Packs bin n values k → voted ≡ majority (packed values k) n → now ≡ old → r ≡ Option.get_or voted now → r ≡ Option.get_or (majority bin n) old
+    Packs bin n values k → voted ≡ majority (packed values k) n → now ≡ old → r ≡ unwrap_or voted now → r ≡ unwrap_or (majority bin n) old
 counted-old bin n packs counted still e = rw (← packs-majority bin n packs, ← counted, ← still) e
 
 -- whether a node votes on a cell, by the tests that the code makes

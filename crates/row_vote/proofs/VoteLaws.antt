@@ -1,11 +1,12 @@
 -- Laws of the vote on rows: column by column, and that the columns and the counters give each row's vote.
+use Rattle.std.specs.Prelude.{Option, None, Some, unwrap_or}
+use Rattle.std.proofs.lemmas.Option.{same_Some}
 use mathlib.Core.Path.{◌≡◌, refl, sym, ap, ◌∙◌}
 use mathlib.Core.Bool.{Bool, true, false, cond}
 use mathlib.Core.List.{List}
-use mathlib.Core.Option
-use mathlib.Core.Option.{Option, none, some}
-use Prim.Native.Nat.{ℕ, zero, suc, ◌+◌, ◌≤◌, ◌<◌}
+use Prim.Native.Nat.{ℕ, zero, suc, ◌+◌, ◌-◌, ◌≤◌, ◌<◌}
 use native.Mathlib.Omega.{arith}
+use native.Mathlib.Nat.{mod-lt}
 use lib.Dec.{eqb, ltb}
 use lib.ListN.{length, get_or}
 use lib.Seq.{ext_get_or}
@@ -15,8 +16,9 @@ use Rattle.array.specs.Bit.{bit}
 use Rattle.array.proofs.TestLaws.{split, clash, and-false-right}
 use Rattle.array.proofs.PlacesLaws.{fill-length, fill-in, fill-out}
 use Rattle.plan.specs.declared.Sizes.{Sizes}
-use Rattle.plan.specs.Limits.{most_nodes, most_frames, most_cells}
+use Rattle.plan.specs.Limits.{most_nodes, most_cells}
 use Rattle.ballot.specs.Majority.{majority}
+use Rattle.ballot.proofs.MajorityLaws.{no-some}
 use Rattle.memory.specs.declared.Memory.{Memory}
 use Rattle.rows.specs.Code.{word_count, word_place, row_of, memory_in, Through}
 use Rattle.rows.proofs.RowLaws.{row_at, row-length, row_same, memory-eq}
@@ -30,21 +32,24 @@ use Rattle.row_vote.specs.Code.{voted_at, sent_word, voted_by, takes, word_after
 -- ---- the frame that is agreed
 
 -- a frame is agreed only where a counter that is one is decided
-pub agreed-some : (frames : ℕ) (o : Option ℕ) {r : ℕ} → r ≡ agreed_frame frames o → r < most_frames → (x : ℕ) × (o ≡ some x) × (x < frames) × (r ≡ frame_before frames x)
+pub agreed-some : (frames : ℕ) (o : Option ℕ) {r : ℕ} → Some r ≡ agreed_frame frames o → (x : ℕ) × (o ≡ Some x) × (x < frames) × (r ≡ frame_before frames x)
 unfolding agreed_frame
-agreed-some frames none e l = absurd (omega arith)
-agreed-some frames (some x) {r} e l =
+agreed-some frames None e = absurd (no-some (sym e))
+agreed-some frames (Some x) {r} e =
     split (ltb x frames)
-    (λ t. (x, refl, ltb-true x frames t, e ∙ rw t))
-    (λ t. absurd (let z : r ≡ most_frames = e ∙ rw t in omega arith))
+    (λ t. (x, refl, ltb-true x frames t, same_Some r (frame_before frames x) (e ∙ rw t)))
+    (λ t. absurd (no-some (sym (e ∙ rw t))))
+
+pub agreed-small : (frames : ℕ) (o : Option ℕ) {r : ℕ} → 0 < frames → Some r ≡ agreed_frame frames o → r < frames
+agreed-small frames o pos e = let a = agreed-some frames o e in rw a.3 (mod-lt (a.0 + frames - 1) pos)
 
 -- and then every good node votes in it
 pub frame-agreed :
     (s : Sizes) (mask : ℕ) (faults counters : List ℕ) {r : ℕ} →
-    r ≡ agreed_frame s.frames (majority (good_only mask (λ j. get_or counters (suc j) 0)) s.nodes) → r < most_frames →
+    Some r ≡ agreed_frame s.frames (majority (good_only mask (λ j. get_or counters (suc j) 0)) s.nodes) →
     (i : ℕ) → r ≡ frame_before s.frames (counter_after s mask faults counters i)
-frame-agreed s mask faults counters e l i =
-    let a = agreed-some s.frames _ e l in
+frame-agreed s mask faults counters e i =
+    let a = agreed-some s.frames _ e in
     a.3 ∙ ap (frame_before s.frames) (sym (counter-settled s mask faults i counters a.0 a.1 a.2))
 
 -- ---- column by column
@@ -179,10 +184,10 @@ module _
         after : ℕ → ℕ
         after c =
             cond (voted_at votes (frame_before s.frames (counter_after s mask faults counters i)) c)
-            (Option.get_or (majority (words c) s.nodes) (get_or (row_of cells (suc i)) c 0))
+            (unwrap_or (majority (words c) s.nodes) (get_or (row_of cells (suc i)) c 0))
             (get_or (row_of cells (suc i)) c 0)
 
-        word-is : (d : ℕ) → d < most_cells → word_after votes s mask faults sent cells d i ≡ Option.get_or (majority (words d) s.nodes) (get_or (row_of cells (suc i)) d 0)
+        word-is : (d : ℕ) → d < most_cells → word_after votes s mask faults sent cells d i ≡ unwrap_or (majority (words d) s.nodes) (get_or (row_of cells (suc i)) d 0)
         word-is d m =
             rw (
               heard-same mask s.nodes (sent_word votes sent cells d) (sent_word votes (sent_frame votes s mask faults counters cells) cells d) (λ j k. rw (sent_is j k)) (fault_word s mask faults (suc d) i),

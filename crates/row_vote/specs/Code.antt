@@ -1,7 +1,5 @@
 -- The code's own: the vote of all nodes on rows, by what each hears. No definition of document 01 cites these.
-use Rattle.std.specs.Prelude.{Bool, false, cond, ◌&&◌, List, ℕ, zero, suc, ltb, get_or}
-use Rattle.std.proofs.Math.Option
-use Rattle.std.proofs.Math.Option.{Option}
+use Rattle.std.specs.Prelude.{Bool, false, cond, ◌&&◌, List, ℕ, zero, suc, ltb, get_or, Option, unwrap_or}
 use Rattle.array.specs.Index.{fill, lesser, least}
 use Rattle.array.specs.Bit.{bit}
 use Rattle.plan.specs.declared.Sizes.{Sizes}
@@ -32,7 +30,7 @@ voted_by votes s counters words m =
       cells =
           fill
           (λ c. cond (voted_at votes (frame_before s.frames (or_own s.frames m.counter (majority counters s.nodes))) c)
-          (Option.get_or (majority (words c) s.nodes) (get_or m.cells c 0))
+          (unwrap_or (majority (words c) s.nodes) (get_or m.cells c 0))
           (get_or m.cells c 0))
           s.cells
           m.cells;
@@ -46,7 +44,7 @@ module _ (votes : List Bool) (s : Sizes) (mask : ℕ) (faults : List ℕ) where
   -- node i's cell c where it votes on it
   unfoldable pub word_after : (ℕ → ℕ) → List ℕ → ℕ → ℕ → ℕ
   word_after sent cells c i =
-      Option.get_or (majority (heard_word s mask faults (sent_word votes sent cells c) (suc c) i) s.nodes) (get_or cells (word_place (suc i) c) 0)
+      unwrap_or (majority (heard_word s mask faults (sent_word votes sent cells c) (suc c) i) s.nodes) (get_or cells (word_place (suc i) c) 0)
 
   -- and its agreement on it
   unfoldable pub word_agreement : (ℕ → ℕ) → List ℕ → ℕ → ℕ → ℕ

@@ -1,7 +1,7 @@
 -- Laws of the agreement of all good nodes on a value: what each way through the code counts is the least of what each good node counts for itself.
+use Rattle.std.specs.Prelude.{Option, None, Some}
 use mathlib.Core.Path.{◌≡◌, refl, sym, ap, ◌∙◌}
 use mathlib.Core.Bool.{Bool}
-use mathlib.Core.Option.{Option, none, some}
 use Prim.Native.Nat.{ℕ, ◌≤◌, ◌<◌, min}
 use native.Mathlib.Omega.{arith}
 use Rattle.array.specs.Index.{lesser, least}
@@ -72,7 +72,7 @@ module _ (mask n low : ℕ) (fault : ℕ → ℕ → Option ℕ) (w u : ℕ → 
       h ∙ ap (lesser low) (least-same take take _ count-sent n (λ i l. refl) (λ i l t. sym (heard-agreement mask n w u e (fault i))))
 
   module _ {o : Option ℕ} (d : o ≡ majority (good_only mask u) n) where
-    pub least-of-none : o ≡ none → mask ≡ 0 → 0 < n → 0 ≡ lesser low (least (is_good mask) count-sent n)
+    pub least-of-none : o ≡ None → mask ≡ 0 → 0 < n → 0 ≡ lesser low (least (is_good mask) count-sent n)
     least-of-none q z pos =
         omega (
           arith,
@@ -82,7 +82,7 @@ module _ (mask n low : ℕ) (fault : ℕ → ℕ → Option ℕ) (w u : ℕ → 
         )
 
     pub least-of-decided :
-        (x : ℕ) → o ≡ some x → {r : ℕ} → r ≡ lesser low (least (is_good mask) (λ i. holders (heard_of mask (fault i) u) n x) n) →
+        (x : ℕ) → o ≡ Some x → {r : ℕ} → r ≡ lesser low (least (is_good mask) (λ i. holders (heard_of mask (fault i) u) n x) n) →
         r ≡ lesser low (least (is_good mask) count-sent n)
     least-of-decided x q h =
         h

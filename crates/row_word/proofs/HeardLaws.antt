@@ -1,8 +1,8 @@
 -- Laws of one word of all nodes: what more than half sent as good nodes is what every good node votes, and with no bad node all hear the same.
+use Rattle.std.specs.Prelude.{Option, None, Some}
 use mathlib.Core.Path.{◌≡◌, sym, ap, ◌∙◌}
 use mathlib.Core.Bool.{Bool, true, false, not, ◌&&◌}
 use mathlib.Core.List.{List}
-use mathlib.Core.Option.{Option, none, some}
 use Prim.Native.Nat.{ℕ, ◌+◌, ◌*◌, ◌<◌}
 use native.Mathlib.Omega.{arith}
 use native.Mathlib.Nat.{zero-mul}
@@ -27,10 +27,10 @@ use Rattle.row_word.specs.Code.{is_good, good_only, heard_word}
 pub good-if : (mask j : ℕ) {b t : Bool} → b ≡ bit mask j → not b ≡ t → is_good mask j ≡ t
 good-if mask j e h = ap not (sym e) ∙ h
 
-pub good_none : (mask : ℕ) (w : ℕ → ℕ) (j : ℕ) → is_good mask j ≡ false → good_only mask w j ≡ none
+pub good_none : (mask : ℕ) (w : ℕ → ℕ) (j : ℕ) → is_good mask j ≡ false → good_only mask w j ≡ None
 good_none mask w j t = rw (not-false (bit mask j) t)
 
-pub good-some : (mask : ℕ) (w : ℕ → ℕ) (j : ℕ) → is_good mask j ≡ true → good_only mask w j ≡ some (w j)
+pub good-some : (mask : ℕ) (w : ℕ → ℕ) (j : ℕ) → is_good mask j ≡ true → good_only mask w j ≡ Some (w j)
 good-some mask w j t = rw (not-true (bit mask j) t)
 
 -- the good nodes that hold a value, counted one by one
@@ -46,8 +46,8 @@ module _ (mask : ℕ) (w : ℕ → ℕ) (j x : ℕ) {b : Bool} {r : ℕ} (e : b 
   good-passed t = holders-miss (good_only mask w) j (λ q. clash (some_holds x q) (good-holds t)) h
 
 -- the words that were read
-pub told-word : (w : ℕ → ℕ) (n : ℕ) (words : List ℕ) → Told (λ j. some (w j)) n words → (j : ℕ) → j < n → w j ≡ get_or words j 0
-told-word w n words t j l = let e : some (w j) ≡ some (get_or words j 0) = t j l in cc
+pub told-word : (w : ℕ → ℕ) (n : ℕ) (words : List ℕ) → Told (λ j. Some (w j)) n words → (j : ℕ) → j < n → w j ≡ get_or words j 0
+told-word w n words t j l = let e : Some (w j) ≡ Some (get_or words j 0) = t j l in cc
 
 module _ (mask n : ℕ) (w u : ℕ → ℕ) (e : (j : ℕ) → j < n → w j ≡ u j) where
   pub good-same : majority (good_only mask w) n ≡ majority (good_only mask u) n
@@ -60,11 +60,11 @@ module _ (mask n : ℕ) (w u : ℕ → ℕ) (e : (j : ℕ) → j < n → w j ≡
   heard-agreement fault = agreement-same (heard_of mask fault w) (heard_of mask fault u) n (λ j l. rw (e j l))
 
 module _ (mask n : ℕ) (fault : ℕ → Option ℕ) (w : ℕ → ℕ) where
-  pub good-heard : (j v : ℕ) → good_only mask w j ≡ some v → heard_of mask fault w j ≡ some v
+  pub good-heard : (j v : ℕ) → good_only mask w j ≡ Some v → heard_of mask fault w j ≡ Some v
   good-heard j v = split (bit mask j) (λ t. rw t (λ e. absurd (no-some e))) (λ t. rw t (λ e. e))
 
   -- what more than half sent as good nodes is heard by all, whatever the others say
-  pub heard-decided : (x : ℕ) → majority (good_only mask w) n ≡ some x → majority (heard_of mask fault w) n ≡ some x
+  pub heard-decided : (x : ℕ) → majority (good_only mask w) n ≡ Some x → majority (heard_of mask fault w) n ≡ Some x
   heard-decided x e = majority-heard (good_only mask w) (heard_of mask fault w) n x (λ j v l. good-heard j v) e
 
   -- with no bad node it is all that is heard
@@ -84,7 +84,7 @@ module _ (mask n : ℕ) (words : List ℕ) (z : mask ≡ 0) where
 
 -- what was decided of words that were read is decided of what was sent
 pub decided-of :
-    (mask n : ℕ) (w : ℕ → ℕ) (words : List ℕ) → Told (λ j. some (w j)) n words → {o : Option ℕ} → o ≡ majority (good_only mask (λ j. get_or words j 0)) n →
+    (mask n : ℕ) (w : ℕ → ℕ) (words : List ℕ) → Told (λ j. Some (w j)) n words → {o : Option ℕ} → o ≡ majority (good_only mask (λ j. get_or words j 0)) n →
     majority (good_only mask w) n ≡ o
 decided-of mask n w words t d = good-same mask n w (λ j. get_or words j 0) (told-word w n words t) ∙ sym d
 

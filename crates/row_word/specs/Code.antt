@@ -1,6 +1,5 @@
 -- The code's own: one word of all nodes, by what each hears. No definition of document 01 cites these.
-use Rattle.std.specs.Prelude.{Bool, not, cond, List, ℕ}
-use Rattle.std.proofs.Math.Option.{Option, none, some}
+use Rattle.std.specs.Prelude.{Bool, not, cond, List, ℕ, Option, None, Some}
 use Rattle.array.specs.Bit.{bit}
 use Rattle.plan.specs.declared.Sizes.{Sizes}
 use Rattle.system.specs.Fault.{fault_message_at}
@@ -11,7 +10,7 @@ is_good mask j = not (bit mask j)
 
 -- what the good nodes alone tell, of which node j has the word `word j`
 abbrev pub good_only : ℕ → (ℕ → ℕ) → ℕ → Option ℕ
-good_only mask word j = cond (bit mask j) none (some (word j))
+good_only mask word j = cond (bit mask j) None (Some (word j))
 
 module _ (s : Sizes) (mask : ℕ) (faults : List ℕ) where
   -- what the fault bytes say of word w to node i

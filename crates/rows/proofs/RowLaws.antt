@@ -174,14 +174,13 @@ stored-memory m counters cells part r at size l fits long e =
 
 -- ---- a record taken apart, and put together
 
-module _ (memories : List Memory) (counters₀ cells₀ : List ℕ) where
+module _ (memories : List Memory) where
   -- the first n memories stand in their rows
   pub record Unpacked (n : ℕ) (counters cells : List ℕ) : Type 0 where
-    pub first : memory_in counters cells 0 ≡ memory_in counters₀ cells₀ 0
     pub nodes : (j : ℕ) → j < n → memory_in counters cells (suc j) ≡ get_or memories j zero_memory
 
-  pub unpacked-none : Unpacked 0 counters₀ cells₀
-  unpacked-none = record { first = refl; nodes = λ j l. absurd (not-suc-le-zero l) }
+  pub unpacked-none : (counters cells : List ℕ) → Unpacked 0 counters cells
+  unpacked-none counters cells = record { nodes = λ j l. absurd (not-suc-le-zero l) }
 
   pub unpacked-next :
       {counters cells counters' cells' : List ℕ} {m : Memory} (n : ℕ) →
@@ -191,7 +190,6 @@ module _ (memories : List Memory) (counters₀ cells₀ : List ℕ) where
       Unpacked (n + 1) counters' cells'
   unpacked-next {counters} {cells} {counters'} {cells'} {m} n h s e =
       record {
-        first = s.others 0 (λ z. omega arith) ∙ h.first;
         nodes = λ j l.
             split (eqb j n)
             (λ t. rw (eqb-true j n t) (subst (λ (r : ℕ). memory_in counters' cells' r ≡ m) (add-one n) s.here ∙ e))
@@ -199,17 +197,25 @@ module _ (memories : List Memory) (counters₀ cells₀ : List ℕ) where
       }
 
 pub rows-unpacked :
-    (sys : System) {counters₀ cells₀ counters cells : List ℕ} {n : ℕ} →
+    (sys : System) {counters cells good seen : List ℕ} {n : ℕ} →
     length sys.memories ≡ most_nodes →
     length sys.seen.handed ≡ most_actuators →
-    Unpacked sys.memories counters₀ cells₀ n counters cells →
+    good ≡ sys.good →
+    seen ≡ seen_words sys.seen →
+    Unpacked sys.memories n counters cells →
     n ≡ most_nodes →
-    Rows sys counters cells sys.good (seen_words sys.seen) × (memory_in counters cells 0 ≡ memory_in counters₀ cells₀ 0)
-rows-unpacked sys l m h z = (record { node-is = λ j k. h.nodes j (omega arith); good-is = refl; seen-is = refl; count = l; seen-count = m }, h.first)
+    Rows sys counters cells good seen
+rows-unpacked sys l m e f h z = record { node-is = λ j k. h.nodes j (omega arith); good-is = e; seen-is = f; count = l; seen-count = m }
 
--- what is seen, handed over as its words
-pub rows_seen : {sys : System} {counters cells good words seen : List ℕ} → seen ≡ words → Rows sys counters cells good words → Rows sys counters cells good seen
-rows_seen e h = record { node-is = h.node-is; good-is = h.good-is; seen-is = e ∙ h.seen-is; count = h.count; seen-count = h.seen-count }
+-- a system stays where the single controller's row is stored
+pub rows-beside :
+    {sys : System} {counters cells good seen counters' cells' good' seen' : List ℕ} {m : Memory} →
+    Rows sys counters cells good seen →
+    Stored counters cells 0 m counters' cells' →
+    good' ≡ good →
+    seen' ≡ seen →
+    Rows sys counters' cells' good' seen'
+rows-beside h s e f = record { node-is = λ j l. s.others (suc j) (λ z. omega arith) ∙ h.node-is j l; good-is = e ∙ h.good-is; seen-is = f ∙ h.seen-is; count = h.count; seen-count = h.seen-count }
 
 pub seen-long : {sys : System} {counters cells good seen : List ℕ} → Rows sys counters cells good seen → length seen ≡ most_actuators
 seen-long h = ap length h.seen-is ∙ h.seen-count

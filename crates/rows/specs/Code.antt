@@ -27,7 +27,7 @@ row_of cells r = take most_cells (drop (most_cells * r) cells)
 abbrev pub memory_in : List ℕ → List ℕ → ℕ → Memory
 memory_in counters cells r = record { counter = get_or counters r 0; cells = row_of cells r }
 
--- what is seen, as words: a struct cannot be lent, its words can
+-- what is seen, as words: the values last handed on
 abbrev pub seen_words : Seen → List ℕ
 seen_words seen = seen.handed
 

@@ -1,11 +1,10 @@
 -- What the blocks of a run print, one after another, is the listing of what was read.
+use Rattle.std.specs.Prelude.{None, is_none}
 use mathlib.Core.Path.{◌≡◌, refl, sym, ap, ◌∙◌}
 use mathlib.Core.Bool.{false}
 use mathlib.Core.List.{List, ◌++◌, append_assoc, append-nil}
 use Prim.Native.Nat.{ℕ}
-use native.Mathlib.Omega.{arith}
-use Rattle.array.proofs.TestLaws.{split}
-use Rattle.answer.specs.Refusal.{number_of}
+use Rattle.array.proofs.TestLaws.{split, clash}
 use Rattle.run_line.specs.Listing.{line_left, run_listing, printed}
 use Rattle.lines.specs.declared.Run.{Run}
 use Rattle.lines.specs.Code.{lines_answer}
@@ -14,15 +13,15 @@ use Rattle.lines.proofs.BlockLaws.{run-split}
 use Rattle.run.specs.Followed.{Passed, nothing, further, Followed}
 
 -- a block of which no line is refused has none left
-none_left : (r : Run) (block : List ℕ) → number_of (lines_answer r block).answer ≡ 0 → line_left r.plan r.system r.single r.frame block ≡ false
+none_left : (r : Run) (block : List ℕ) → (lines_answer r block).refused ≡ None → line_left r.plan r.system r.single r.frame block ≡ false
 unfolding lines_answer
-none_left r block e = split (line_left r.plan r.system r.single r.frame block) (λ t. absurd (omega (arith, rw t at e))) (λ t. t)
+none_left r block e = split (line_left r.plan r.system r.single r.frame block) (λ t. absurd (clash (ap is_none (rw t at e)) refl)) (λ t. t)
 
-block-printed : (r : Run) (block : List ℕ) → number_of (lines_answer r block).answer ≡ 0 → block_listing r block ≡ printed r.plan r.system r.single r.frame block
+block-printed : (r : Run) (block : List ℕ) → (lines_answer r block).refused ≡ None → block_listing r block ≡ printed r.plan r.system r.single r.frame block
 unfolding run_listing
 block-printed r block e = rw (none_left r block e) (append-nil (printed r.plan r.system r.single r.frame block))
 
-block-then : (r : Run) (block more : List ℕ) → number_of (lines_answer r block).answer ≡ 0 → block_listing r (block ++ more) ≡ block_listing r block ++ block_listing (lines_answer r block).run more
+block-then : (r : Run) (block more : List ℕ) → (lines_answer r block).refused ≡ None → block_listing r (block ++ more) ≡ block_listing r block ++ block_listing (lines_answer r block).run more
 unfolding lines_answer
 block-then r block more e =
     run-split r.plan r.system r.single r.frame block more (none_left r block e)

@@ -1,7 +1,6 @@
 -- The blocks of a run that the program has read, one after another: each is printed from the run that the one before it left. No contract can say what a file has or what is written; this says what the
 -- blocks are to each other, and proofs/FollowedLaws that what they print is the listing of what was read.
-use Rattle.std.specs.Prelude.{◌≡◌, List, [], ◌++◌, ℕ, ◌*◌, ◌<◌, length}
-use Rattle.answer.specs.Refusal.{number_of}
+use Rattle.std.specs.Prelude.{◌≡◌, List, [], ◌++◌, ℕ, ◌*◌, ◌<◌, length, None}
 use Rattle.run_line.specs.Line.{run_line_size}
 use Rattle.lines.specs.declared.Run.{Run}
 use Rattle.lines.specs.Code.{block_lines, lines_answer}
@@ -11,7 +10,7 @@ use Rattle.lines.specs.Blocks.{block_listing}
 pub data Passed (start : Run) : List ℕ → List ℕ → Run → Type 0 where
   nothing : Passed start [] [] start
   further :
-      {read printed : List ℕ} {r : Run} → Passed start read printed r → (block : List ℕ) → number_of (lines_answer r block).answer ≡ 0 →
+      {read printed : List ℕ} {r : Run} → Passed start read printed r → (block : List ℕ) → (lines_answer r block).refused ≡ None →
       Passed start (read ++ block) (printed ++ block_listing r block) (lines_answer r block).run
 
 -- the run after them
@@ -25,5 +24,5 @@ pub record Followed (start left : Run) : Type 0 where
   pub before : Run
   pub reached : Reached start before
   pub last : List ℕ
-  pub ends : number_of (lines_answer before last).answer ≡ 0 → length last < block_lines * run_line_size start.plan.sensors
+  pub ends : (lines_answer before last).refused ≡ None → length last < block_lines * run_line_size start.plan.sensors
   pub left_is : left ≡ (lines_answer before last).run

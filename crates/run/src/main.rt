@@ -2,8 +2,7 @@
 // decided in `lines` and `listing_start`.
 #![tactic(auto)]
 
-ghost use Rattle.std.specs.Prelude.{◌≡◌, true, ◌&&◌, ◌+◌, ◌*◌, ◌≤◌, eqb, length, take};
-ghost use Rattle.answer.specs.Refusal.{number_of};
+ghost use Rattle.std.specs.Prelude.{◌≡◌, true, ◌&&◌, ◌+◌, ◌*◌, ◌≤◌, eqb, is_none, length, take};
 ghost use Rattle.plan.specs.Known.{period as period_of};
 ghost use Rattle.plan.specs.Accepted.{accepted};
 ghost use Rattle.plan.specs.Limits.{most_nodes};
@@ -16,7 +15,7 @@ ghost use Rattle.lines.specs.Code.{block_lines, lines_answer};
 ghost use Rattle.lines.specs.Blocks.{LaidBlock};
 ghost use Rattle.run.specs.Followed.{Followed};
 
-use answer::Answer;
+use answer::Refusal;
 use lines::{Printed, Run};
 use std::io::{Read as Input, Write};
 use std::{fs, io};
@@ -27,16 +26,11 @@ const INPUT: usize = lines::step::BLOCK * 329;
 
 const OUTPUT: usize = lines::step::BLOCK * 181 + run_line::step::REFUSAL;
 
-// A write that fails is passed over.
-fn print_bytes<R: Print>(rt: &R, bytes: &[u8]) {
-    let mut out = io::writer(rt);
-    let _ = out.write_all(bytes);
-}
-
-fn print_refusal<R: Print>(rt: &R, answer: Answer) {
+fn print_refusal<R: Print>(rt: &R, refusal: Refusal) {
     let mut line = [0u8; run_line::step::REFUSAL];
-    listing_start::refusal(answer, &mut line);
-    print_bytes(rt, &line);
+    run_line::step::write_refusal(&mut line, refusal);
+    // A write that fails is passed over.
+    let _ = io::writer(rt).write_all(&line);
 }
 
 // What the lines of a block print, with the line of a refusal, and the run after them.
@@ -48,25 +42,19 @@ fn listed(
     out: &mut [u8],
 ) -> Printed
     requires { (accepted run.plan ≡ true) × (run.period ≡ period_of run.plan) × (run.frame ≤ most_run_lines) × (length rest.now ≤ block_lines * run_line_size run.plan.sensors) × (length held.old ≡ most_nodes) × (length faults.old ≡ faults_size (sizes_of run.plan)) × Held (sizes_of run.plan) held.old faults.old × (block_lines * printed_size run.plan.actuators + refusal_size ≤ length out.old) }
-    ensures { (result.answer ≡ (lines_answer run rest.now).answer) × LaidBlock run rest.now out.new result.count result.run × (length held.new ≡ most_nodes) × Held (sizes_of run.plan) held.new faults.new }
+    ensures { (result.refused ≡ (lines_answer run rest.now).refused) × LaidBlock run rest.now out.new result.count result.run × (length held.new ≡ most_nodes) × Held (sizes_of run.plan) held.new faults.new }
 {
     let r = lines::step::lines(run, rest, held, faults, out);
-    let answer = r.answer;
+    let Some(refusal) = r.refused else {
+        return r;
+    };
     let count = r.count;
-    let next = r.run;
-    if answer.number() == 0 {
-        return Printed {
-            answer: answer,
-            count: count,
-            run: next,
-        };
-    }
     let end = count + run_line::step::REFUSAL;
-    run_line::step::write_refusal(&mut out[count..end], answer);
+    run_line::step::write_refusal(&mut out[count..end], refusal);
     Printed {
-        answer: answer,
+        refused: r.refused,
         count: end,
-        run: next,
+        run: r.run,
     }
 }
 
@@ -90,20 +78,18 @@ fn block<R: Print, F: Input>(
     out: &mut [u8],
 ) -> Read
     requires { (accepted run.plan ≡ true) × (run.period ≡ period_of run.plan) × (run.frame ≤ most_run_lines) × (length input.old ≤ block_lines * run_line_size run.plan.sensors) × (length held.old ≡ most_nodes) × (length faults.old ≡ faults_size (sizes_of run.plan)) × Held (sizes_of run.plan) held.old faults.old × (block_lines * printed_size run.plan.actuators + refusal_size ≤ length out.old) }
-    ensures { (length input.new ≡ length input.old) × (result.got ≤ length input.new) × LaidBlock run (take result.got input.new) out.new result.printed result.run × (result.more ≡ (eqb (number_of (lines_answer run (take result.got input.new)).answer) 0 && eqb result.got (length input.new))) × (length held.new ≡ most_nodes) × (length faults.new ≡ length faults.old) × Held (sizes_of run.plan) held.new faults.new × (length out.new ≡ length out.old) }
+    ensures { (length input.new ≡ length input.old) × (result.got ≤ length input.new) × LaidBlock run (take result.got input.new) out.new result.printed result.run × (result.more ≡ (is_none (lines_answer run (take result.got input.new)).refused && eqb result.got (length input.new))) × (length held.new ≡ most_nodes) × (length faults.new ≡ length faults.old) × Held (sizes_of run.plan) held.new faults.new × (length out.new ≡ length out.old) }
 {
     let got = plan_file::read_full(file, input);
     let r = listed(run, &input[0..got], held, faults, out);
     let printed = r.count;
-    print_bytes(rt, &out[0..printed]);
-    let answer = r.answer;
-    let next = r.run;
+    let _ = io::writer(rt).write_all(&out[0..printed]);
     let whole = got == input.len();
     Read {
-        got: got,
-        printed: printed,
-        more: (answer.number() == 0) & whole,
-        run: next,
+        got,
+        printed,
+        more: r.refused.is_none() & whole,
+        run: r.run,
     }
 }
 
@@ -119,6 +105,7 @@ fn follow<R: Print, F: Input>(rt: &R, file: &mut F, start: Run) -> Run
     let mut out = [0u8; OUTPUT];
     let mut held = [0u8; System::NODES];
     let mut faults = [0u8; faults::step::MOST];
+    // How many blocks the file has shows at its end.
     loop {
         let read = block(
             rt,
@@ -139,14 +126,12 @@ fn follow<R: Print, F: Input>(rt: &R, file: &mut F, start: Run) -> Run
 fn main(rt: HostRuntime) {
     let mut text = [0u8; plan_file::TEXT];
     let n = plan_file::read(&rt, &mut text);
-    let start = listing_start::start(&text[0..n]);
-    let answer = start.answer;
-    if answer.number() != 0 {
-        print_refusal(&rt, answer);
-        return;
+    match listing_start::start(&text[0..n]) {
+        Ok(run) => {
+            if let Ok(mut file) = fs::open(&rt, "run.txt") {
+                follow(&rt, &mut file, run);
+            }
+        }
+        Err(refusal) => print_refusal(&rt, refusal),
     }
-    let Ok(mut file) = fs::open(&rt, "run.txt") else {
-        return;
-    };
-    follow(&rt, &mut file, start.run);
 }

@@ -1,7 +1,7 @@
 -- Lines of the listing, column after column.
 use mathlib.Core.Path.{◌≡◌, refl, sym, ap, ◌∙◌}
 use mathlib.Core.List.{List, [], ◌∷◌, ◌++◌, append_assoc, append-nil}
-use Prim.Native.Nat.{ℕ, zero, suc, ◌+◌, ◌-◌, ◌*◌, ◌≤◌}
+use Prim.Native.Nat.{ℕ, zero, suc, ◌+◌, ◌*◌, ◌≤◌}
 use native.Mathlib.Omega.{arith}
 use native.Mathlib.Nat.{zero-add}
 use native.Mathlib.Numerals.{add-one}
@@ -9,7 +9,7 @@ use lib.ListN.{length, get_or, set, replicate, length-append, length-set, drop_o
 use lib.Seq.{set_split}
 use Rattle.array.specs.Index.{joined, from}
 use Rattle.array.proofs.PlacesLaws.{joined_same, joined-more, from-length, from_at}
-use Rattle.answer.specs.declared.Answer.{Answer}
+use Rattle.answer.specs.declared.Refusal.{Refusal}
 use Rattle.answer.specs.Refusal.{number_of, line_of}
 use Rattle.column.specs.Column.{column}
 use Rattle.column.specs.Row.{row}
@@ -132,7 +132,7 @@ module _ (s : List ℕ) (n : ℕ) (size : length s ≡ printed_size n) (f w g : 
 -- ---- the line of a refusal
 
 pub refusal-row :
-    (s : List ℕ) (m : Answer) {a b : List ℕ} →
+    (s : List ℕ) (m : Refusal) {a b : List ℕ} →
     refusal_size ≤ length s →
     a ≡ placed s 0 (column 4 (number_of m)) →
     b ≡ placed a 4 (column 8 (line_of m)) →
@@ -147,7 +147,7 @@ refusal-row s m {a} {b} l x y =
     let k : length b ≡ length s = ap length y2 ∙ placed-length s 0 t2 (omega arith) in
     (length-set b 12 10 ∙ k, set_split b 12 10 (omega arith) ∙ placed-next s 0 t2 b (10 ∷ []) 12 y2 (omega arith) (omega arith) ∙ ap (placed s 0) (append_assoc t1 (column 8 (line_of m)) (10 ∷ [])))
 
-pub refusal-length : (m : Answer) → length (refusal_line m) ≡ refusal_size
+pub refusal-length : (m : Refusal) → length (refusal_line m) ≡ refusal_size
 unfolding refusal_line total
 refusal-length m = row-length (4 ∷ 8 ∷ []) (number_of m ∷ line_of m ∷ [])
 

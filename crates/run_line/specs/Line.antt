@@ -1,9 +1,8 @@
 -- Document 01, 'The run program': the lines of a run and of its listing. "A run line, its columns formed as a plan's: mask (width 4), fill (4), S
 -- patterns (20 each), line feed".
-use Rattle.std.specs.Prelude.{cond, ◌&&◌, List, [], ◌∷◌, ◌++◌, ℕ, ◌+◌, ◌*◌, ◌^◌, leb, ltb, get_or, drop, replicate}
-use Rattle.std.proofs.Math.Option.{Option, none, some}
+use Rattle.std.specs.Prelude.{cond, ◌&&◌, List, [], ◌∷◌, ◌++◌, ℕ, ◌+◌, ◌*◌, ◌^◌, leb, ltb, get_or, drop, replicate, Option, None, Some}
 use Rattle.column.specs.Row.{row, numbers_shown}
-use Rattle.answer.specs.declared.Answer.{Answer}
+use Rattle.answer.specs.declared.Refusal.{Refusal}
 use Rattle.answer.specs.Refusal.{number_of, line_of}
 
 -- a pattern's column, in both
@@ -40,8 +39,8 @@ patterns_in l = drop 2 l
 
 -- "10: a line not of form, mask ≥ 2^n, fill > 255": the numbers of a line to which none of these applies
 unfoldable pub in_limits : ℕ → Option (List ℕ) → Option (List ℕ)
-in_limits n none = none
-in_limits n (some l) = cond (ltb (mask_in l) (2 ^ n) && leb (fill_in l) 255) (some l) none
+in_limits n None = None
+in_limits n (Some l) = cond (ltb (mask_in l) (2 ^ n) && leb (fill_in l) 255) (Some l) None
 
 -- under a plan of n nodes and s sensors
 unfoldable pub run_numbers : ℕ → ℕ → List ℕ → Option (List ℕ)
@@ -67,7 +66,7 @@ abbrev pub printed_size : ℕ → ℕ
 printed_size a = agreement_at a + agreement_width + 1
 
 -- "A refusal prints number (4) and line (8)"
-unfoldable pub refusal_line : Answer → List ℕ
+unfoldable pub refusal_line : Refusal → List ℕ
 refusal_line a = row (4 ∷ 8 ∷ []) (number_of a ∷ line_of a ∷ [])
 
 abbrev pub refusal_size : ℕ

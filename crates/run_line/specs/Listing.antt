@@ -1,11 +1,10 @@
 -- Document 01, 'The run program': what is printed, from the bytes of the two files. A run's lines are blocks of one size: the first that is not of form is
 -- refused, and before it blocks and line feeds count the same.
-use Rattle.std.specs.Prelude.{Bool, true, false, cond, ◌&&◌, List, [], ◌∷◌, ◌++◌, ℕ, zero, suc, ◌+◌, ◌-◌, ◌*◌, eqb, ltb, length, take, drop, replicate}
-use Rattle.std.proofs.Math.Option.{Option, none, some, get_or}
+use Rattle.std.specs.Prelude.{Bool, true, false, cond, ◌&&◌, List, [], ◌∷◌, ◌++◌, ℕ, zero, suc, ◌+◌, ◌-◌, ◌*◌, eqb, ltb, length, take, drop, replicate, Option, None, Some, unwrap_or}
 use Rattle.array.specs.Index.{how_many, joined}
 use Rattle.column.specs.Row.{row}
-use Rattle.answer.specs.declared.Answer.TheVariants.{Done, RunLine}
-use Rattle.answer.specs.Tests.{unless_refused}
+use Rattle.answer.specs.declared.Refusal.{Refusal}
+use Rattle.answer.specs.declared.Refusal.TheVariants.{RunLine}
 use Rattle.plan.specs.declared.Plan.{Plan}
 use Rattle.plan.specs.Known.{period}
 use Rattle.plan.specs.Sizes.{sizes_of}
@@ -31,12 +30,12 @@ leading q zero = 0
 leading q (suc n) = cond (eqb (leading q n) n && q n) (suc n) (leading q n)
 
 abbrev pub is_some : Option (List ℕ) → Bool
-is_some none = false
-is_some (some l) = true
+is_some None = false
+is_some (Some l) = true
 
 -- the numbers of the line of a frame, from its bytes, if it is not refused: 10
 unfoldable pub line_numbers : Plan → ℕ → List ℕ → Option (List ℕ)
-line_numbers p frame line = cond (ltb frame most_run_lines) (run_numbers p.nodes p.sensors line) none
+line_numbers p frame line = cond (ltb frame most_run_lines) (run_numbers p.nodes p.sensors line) None
 
 -- ---- one frame, from a run line's numbers l
 
@@ -78,7 +77,7 @@ module _ (p : Plan) (sys : System) (single : Memory) (first : ℕ) (run : List �
   read_line k = run_numbers p.nodes p.sensors (take (run_line_size p.sensors) (drop (k * run_line_size p.sensors) run))
 
   unfoldable pub read_numbers : ℕ → List ℕ
-  read_numbers k = get_or (read_line k) []
+  read_numbers k = unwrap_or (read_line k) []
 
   -- record and single controller before frame k of these
   unfoldable pub system_at : ℕ → System
@@ -108,8 +107,10 @@ module _ (p : Plan) (sys : System) (single : Memory) (first : ℕ) (run : List �
 
 -- ---- the whole listing: "A refusal prints .. and ends the listing"; "an empty run under an accepted plan prints no line"
 
+-- the lines of a text that is not refused, or the refusal's
+unfoldable pub lines_or : Option Refusal → List ℕ → List ℕ
+lines_or None lines = lines
+lines_or (Some r) lines = refusal_line r
+
 unfoldable pub listing : List ℕ → List ℕ → List ℕ
-listing plan run =
-    unless_refused (text_refusal plan)
-    (run_listing (plan_of plan) (power_on (plan_of plan)) (powered_on (plan_of plan)) 0 run)
-    (refusal_line (get_or (text_refusal plan) Done))
+listing plan run = lines_or (text_refusal plan) (run_listing (plan_of plan) (power_on (plan_of plan)) (powered_on (plan_of plan)) 0 run)

@@ -1,6 +1,5 @@
 // The lines of a run and of its listing, for callers that know the plan's counts to be within their limits and the lengths to be right.
-ghost use Rattle.std.specs.Prelude.{◌≡◌, cond, ◌∷◌, ◌++◌, [], ◌+◌, ◌*◌, ◌≤◌, ltb, length, replicate, get_or, take};
-ghost use Rattle.std.proofs.Math.Option.{none};
+ghost use Rattle.std.specs.Prelude.{◌≡◌, cond, ◌∷◌, ◌++◌, [], ◌+◌, ◌*◌, ◌≤◌, ltb, length, replicate, get_or, take, None, option_map};
 ghost use Rattle.array.specs.Index.{joined, from};
 ghost use Rattle.array.specs.Code.{placed};
 ghost use Rattle.column.specs.Column.{column};
@@ -8,10 +7,9 @@ ghost use Rattle.column.specs.Row.{row, numbers_from};
 ghost use Rattle.plan.specs.Limits.{most_nodes, most_sensors, most_actuators};
 ghost use Rattle.run_line.specs.Line.{run_line_size, printed_widths, printed_size, pattern_width, sensors_at, run_numbers, plane_values_at, agreement_width, refusal_line, refusal_size};
 ghost use Rattle.run_line.specs.Listing.{most_run_lines};
-ghost use Rattle.run_line.specs.Code.{if_read, line_read};
+ghost use Rattle.run_line.specs.Code.{line_read};
 
-use answer::Answer;
-use numeral::Number;
+use answer::Refusal;
 use plan::Plan;
 
 // A run has at most so many lines.
@@ -48,32 +46,26 @@ pub const REFUSAL: usize = LINE + 1;
 
 // ---- a run line
 
-// Mask and fill; the patterns are in the array beside it. `Refused` comes first: the compiler takes a test against 0 to fail, so that a line's frame counts as
-// the usual way and the vote is inlined in it.
+// What stands before the patterns, which are in the array beside it.
 #[derive(Clone, Copy)]
-pub enum LineRead {
-    Refused,
-    Whole(u64, u64),
+pub struct LineHead {
+    pub mask: u64,
+    pub fill: u64,
 }
 
 // The patterns of a line that has its length and its line feed.
-fn read_patterns(line: &[u8], count: usize, patterns: &mut [u64; Plan::SENSORS]) -> bool
+fn read_patterns(line: &[u8], count: usize, patterns: &mut [u64; Plan::SENSORS]) -> Option<()>
     requires { (count ≤ most_sensors) × (length line.now ≡ run_line_size count) × (get_or line.now (sensors_at + pattern_width * count) 0 ≡ 10) }
-    ensures { if_read result (take count patterns.new) ≡ numbers_from sensors_at (replicate count pattern_width) line.now }
+    ensures { option_map (λ _. take count patterns.new) result ≡ numbers_from sensors_at (replicate count pattern_width) line.now }
 {
     // Stored whole first: so the proof knows the array's length.
     *patterns = [0; Plan::SENSORS];
-    let mut k: usize = 0;
-    while k < count {
+    for k in 0..count {
         let at = FILL + PATTERN * k;
         // Lent by itself, so that its ends are constants.
-        let Number::Value(v) = column::step::read_wide(&line[at..at + PATTERN], 0, PATTERN) else {
-            return false;
-        };
-        patterns[k] = v;
-        k += 1;
+        patterns[k] = column::step::read_wide(&line[at..at + PATTERN], 0, PATTERN)?;
     }
-    true
+    Some(())
 }
 
 // A line under a plan of so many nodes and sensors.
@@ -82,33 +74,27 @@ fn read_line(
     nodes: usize,
     sensors: usize,
     patterns: &mut [u64; Plan::SENSORS],
-) -> LineRead
+) -> Option<LineHead>
     requires { (nodes ≤ most_nodes) × (sensors ≤ most_sensors) }
     ensures { line_read result (take sensors patterns.new) ≡ run_numbers nodes sensors line.now }
 {
     let end = FILL + PATTERN * sensors;
     if line.len() != end + 1 {
-        return LineRead::Refused;
+        return None;
     }
     if line[end] != b'\n' {
-        return LineRead::Refused;
+        return None;
     }
-    let Number::Value(mask) = column::read(line, 0, MASK) else {
-        return LineRead::Refused;
-    };
-    let Number::Value(fill) = column::read(line, MASK, FILL) else {
-        return LineRead::Refused;
-    };
+    let mask = column::read(line, 0, MASK)?;
+    let fill = column::read(line, MASK, FILL)?;
     if mask >> nodes != 0 {
-        return LineRead::Refused;
+        return None;
     }
     if 255 < fill {
-        return LineRead::Refused;
+        return None;
     }
-    if !read_patterns(line, sensors, patterns) {
-        return LineRead::Refused;
-    }
-    LineRead::Whole(mask, fill)
+    read_patterns(line, sensors, patterns)?;
+    Some(LineHead { mask, fill })
 }
 
 // The numbers of the line of a frame.
@@ -118,12 +104,12 @@ pub fn frame_numbers(
     nodes: usize,
     sensors: usize,
     patterns: &mut [u64; Plan::SENSORS],
-) -> LineRead
+) -> Option<LineHead>
     requires { (nodes ≤ most_nodes) × (sensors ≤ most_sensors) }
-    ensures { line_read result (take sensors patterns.new) ≡ cond (ltb frame most_run_lines) (run_numbers nodes sensors line.now) none }
+    ensures { line_read result (take sensors patterns.new) ≡ cond (ltb frame most_run_lines) (run_numbers nodes sensors line.now) None }
 {
     if LINES <= frame {
-        return LineRead::Refused;
+        return None;
     }
     read_line(line, nodes, sensors, patterns)
 }
@@ -142,10 +128,8 @@ fn put_values(out: &mut [u8], values: &[u64; Plan::ACTUATORS], count: usize, agr
     requires { (count ≤ most_actuators) × (printed_size count ≤ length out.old) }
     ensures { out.new ≡ placed out.old plane_values_at (joined (λ a. column pattern_width (get_or values.now a 0)) count ++ (column agreement_width agreement ++ (10 ∷ []))) }
 {
-    let mut a: usize = 0;
-    while a < count {
+    for a in 0..count {
         column_write::step::put(out, EQUAL + PATTERN * a, PATTERN, values[a]);
-        a += 1;
     }
     let at = EQUAL + PATTERN * count;
     column_write::step::put(out, at, COUNT, agreement as u64);
@@ -172,12 +156,12 @@ pub fn write_frame(
 }
 
 // The line of a refusal.
-pub fn write_refusal(out: &mut [u8], answer: Answer)
+pub fn write_refusal(out: &mut [u8], refusal: Refusal)
     requires { refusal_size ≤ length out.old }
-    ensures { out.new ≡ placed out.old 0 (refusal_line answer) }
+    ensures { out.new ≡ placed out.old 0 (refusal_line refusal) }
 {
-    column_write::step::put(out, 0, NUMBER, answer.number() as u64);
-    column_write::step::put(out, NUMBER, LINE_NUMBER, answer.line() as u64);
+    column_write::step::put(out, 0, NUMBER, refusal.number() as u64);
+    column_write::step::put(out, NUMBER, LINE_NUMBER, refusal.line() as u64);
     out[LINE] = b'\n';
 }
 

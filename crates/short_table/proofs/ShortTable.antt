@@ -14,7 +14,7 @@ use Rattle.plan_grammar.specs.Line.{numbers_at, line_at, is_task}
 use Rattle.plan_grammar.specs.Written.{written}
 use Rattle.plan_grammar.specs.Meant.{op_of, task_of, header_with, initial_with, count_with, tasks_with, voted_with, actuators_with, with_line, plan_to, plan_of}
 use Rattle.plan_grammar.specs.Refused.{length_ok, is_header, after_cells, task_in_order, vote_in_order, actuator_in_order, in_order, task_zeros, in_range, rules_of, form_or_rules, line_refusal, first_refusal, is_last, end_refusal, period_refusal, lines_refusal, text_refusal}
-use Rattle.answer.specs.Tests.{unless_refused}
+use Rattle.answer.specs.Tests.{unless}
 use Rattle.plan_text.specs.Answers.{read_answer}
 use Rattle.task.specs.Task.{op_value, run_task, run_tasks}
 use Rattle.ballot.specs.Majority.{holds, holders, backing, shared, first_shared, majority, or_own}
@@ -29,7 +29,7 @@ unfolding lines_k lines_take plan_k plan_take mailbox counters_voted cells_voted
     voted_in reads reads_known know_task know_tasks know_voted know_frame known all_known period_to period header_ok constants_ok op_ok task_ok
     numbers_at line_at is_task written op_of task_of header_with initial_with count_with tasks_with voted_with actuators_with with_line plan_to plan_of
     length_ok is_header after_cells task_in_order vote_in_order actuator_in_order in_order task_zeros in_range rules_of form_or_rules line_refusal first_refusal
-    is_last end_refusal period_refusal lines_refusal text_refusal unless_refused read_answer
+    is_last end_refusal period_refusal lines_refusal text_refusal unless read_answer
     op_value run_task run_tasks holds holders shared first_shared majority computed before sent_cell message_of bin_of counter_from cell_from counter_in cell_in or_own
     voted_counter voted_cell voted backing most_held none_more plane
 short-table =

@@ -1,9 +1,7 @@
 -- Document 01, 'Short table, to be proved together': the thirteen rows, of the definitions that the contracts cite, and beside them two of request 2026-06. The
 -- sentence at a row is the paper's.
-use Rattle.std.specs.Prelude.{◌≡◌, Bool, true, false, List, [], ◌∷◌, ◌++◌, ℕ, ◌*◌, length, get_or, set, take, replicate}
-use Rattle.std.proofs.Math.Option.{some}
+use Rattle.std.specs.Prelude.{◌≡◌, Bool, true, false, List, [], ◌∷◌, ◌++◌, ℕ, ◌*◌, length, get_or, set, take, replicate, Some, Ok, IsErrAnd}
 use Rattle.array.specs.Index.{joined}
-use Rattle.answer.specs.declared.Answer.TheVariants.{Done}
 use Rattle.answer.specs.Refusal.{number_of, line_of}
 use Rattle.pattern.specs.Pattern.{value_of}
 use Rattle.plan.specs.declared.Op.TheVariants.{Take, Sum, Limit}
@@ -82,14 +80,13 @@ plan_take nodes votes =
       actuator_cell = replicate most_actuators 0;
     }
 
--- the text of these lines is not refused; plan p is read from it, and the recovery period of the plan read is r
+-- the text of these lines is not refused; plan p is read from it, whose recovery period is r
 abbrev pub Recovers : List (List ℕ) → Plan → ℕ → Type 0
-Recovers lines p r =
-    (read_answer (written lines) ≡ record { answer = Done; plan = p }) × (period (read_answer (written lines)).plan ≡ r)
+Recovers lines p r = (read_answer (written lines) ≡ Ok p) × (period p ≡ r)
 
 -- the text of these lines is refused with number n and line l
 abbrev pub Refused : List (List ℕ) → ℕ → ℕ → Type 0
-Refused lines n l = (number_of (read_answer (written lines)).answer ≡ n) × (line_of (read_answer (written lines)).answer ≡ l)
+Refused lines n l = IsErrAnd (read_answer (written lines)) (λ r. (number_of r ≡ n) × (line_of r ≡ l))
 
 -- ---- the nodes
 
@@ -119,7 +116,7 @@ cells_voted own cells = voted four own (mailbox four (λ j. memory 0 (get_or cel
 
 -- what the plane hands on of these values, one of each node, where r is remembered
 unfoldable pub plane_of : List ℕ → ℕ → ℕ
-plane_of values r = plane (λ i. some (get_or values i 0)) (length values) r
+plane_of values r = plane (λ i. Some (get_or values i 0)) (length values) r
 
 -- the patterns of 1, 2, 3, NaN, +0 and −0
 abbrev pub one : ℕ

@@ -1,5 +1,5 @@
 -- What request 2026-02 promises under demand 3's premise holds.
-use mathlib.Core.Path.{◌≡◌, ap, subst, ◌∙◌}
+use mathlib.Core.Path.{◌≡◌, ap, ◌∙◌}
 use mathlib.Core.Bool.{true, false, not}
 use mathlib.Core.List.{List, [], ◌∷◌, ◌++◌}
 use Prim.Native.Nat.{ℕ, ◌*◌, ◌≤◌, ◌<◌}
@@ -8,7 +8,8 @@ use borrow.Author.Tests.{not-true}
 use Rattle.array.proofs.TestLaws.{and_left}
 use Rattle.array.proofs.IndexLaws.{how_many-some}
 use Rattle.array.proofs.LeastLaws.{lesser-first, least-of-taken, least-of-some}
-use Rattle.answer.specs.Tests.{passed, if_passed}
+use Rattle.answer.specs.Tests.{passed}
+use Rattle.answer.proofs.TestLaws.{given-passed}
 use Rattle.plan.specs.declared.Plan.{Plan}
 use Rattle.plan.specs.Known.{period}
 use Rattle.memory.specs.Node.{powered_on}
@@ -50,12 +51,14 @@ module _ (p : Plan) (sys : System) (sensors : List ℕ) (mask : ℕ) (faults : L
       rw (least-of-taken (λ k. not (bad mask k)) (agreement_by p sys sensors mask faults) p.nodes i own l (ap not g) (omega arith)) (lesser-first own _)
 
 pub agreement-holds : Agreement
-unfolding OnePlan Premise is_working frame_answer if_passed
+unfolding OnePlan Premise is_working frame_answer
 agreement-holds p accept cs c frame one most =
     record {
       half = more;
       nodes = λ i l g. each i;
-      least = rw (is, ran) (frame-least p sys c.sensors c.mask c.faults (working_in p cs c) some.0 some.1 (good some.0 some.2) (λ i l g. each i));
+      agreed = frame_agreement c.plan sys c.sensors c.mask c.faults;
+      gives = given-passed (frame_tests c.plan sys c.sensors c.mask c.faults c.place) (frame_agreement c.plan sys c.sensors c.mask c.faults) ran;
+      least = rw is (frame-least p sys c.sensors c.mask c.faults (working_in p cs c) some.0 some.1 (good some.0 some.2) (λ i l g. each i));
     }
   where
     is : c.plan ≡ p
@@ -85,7 +88,5 @@ agreement-holds p accept cs c frame one most =
     good : (j : ℕ) → is_working (period p) c.mask sys.good j ≡ true → bad c.mask j ≡ false
     good j w = not-true (bad c.mask j) (and_left _ _ w)
 
-    ran : passed (frame_tests p sys c.sensors c.mask c.faults c.place) ≡ true
-    ran =
-        subst (λ (q : Plan). passed (frame_tests q sys c.sensors c.mask c.faults c.place) ≡ true) is
-        (runs-frame sys c (λ a. rw is (counts-ok p sys past state.counts)) ∙ frame)
+    ran : passed (frame_tests c.plan sys c.sensors c.mask c.faults c.place) ≡ true
+    ran = runs-frame sys c (λ a. rw is (counts-ok p sys past state.counts)) ∙ frame

@@ -1,4 +1,5 @@
 -- Demand 3 holds.
+use Rattle.std.specs.Prelude.{Option}
 use mathlib.Core.Path.{◌≡◌, refl, sym, ap, ap₂, ◌∙◌}
 use mathlib.Core.Bool.{Bool, true, false, cond, and-true}
 use mathlib.Core.List.{List, [], ◌∷◌, ◌++◌, append_assoc}
@@ -11,8 +12,10 @@ use borrow.Author.Tests.{ltb-true, eqb-true}
 use Rattle.array.specs.Index.{all_in}
 use Rattle.array.proofs.TestLaws.{split, clash, and_left, and_right}
 use Rattle.array.proofs.BitLaws.{bit-none}
-use Rattle.answer.specs.declared.Answer.{Answer}
-use Rattle.answer.specs.Tests.{passed, answered, if_passed}
+use Rattle.std.specs.Result.{result_err}
+use Rattle.answer.specs.declared.Refusal.{Refusal}
+use Rattle.answer.specs.Tests.{passed, refused, if_passed}
+use Rattle.answer.proofs.TestLaws.{given-err}
 use Rattle.plan.specs.declared.Plan.{Plan}
 use Rattle.plan.specs.Known.{known, period}
 use Rattle.plan.specs.Accepted.{accepted}
@@ -24,9 +27,9 @@ use Rattle.system.specs.declared.System.{System}
 use Rattle.system.specs.System.{power_on}
 use Rattle.system.specs.Fault.{bad}
 use Rattle.system.specs.Counts.{good_count}
-use Rattle.system.specs.Frame.{memory_of, good_of, system_after}
+use Rattle.system.specs.Frame.{memory_of, good_of, system_after, frame_agreement}
 use Rattle.system.specs.Single.{single_place}
-use Rattle.system.specs.FrameCall.{mask_ok, counts_ok, frame_tests, frame_answer, frame_place}
+use Rattle.system.specs.FrameCall.{mask_ok, counts_ok, frame_tests, frame_answer, frame_system, frame_place}
 use Rattle.system.specs.Demand.{Call, call_lengths, call_tests, call_answer, is_frame, next, answers, places, finally, single_next, single_places, single_finally, call_answers, masks, good_in, MostGood, Premise, OnePlan, Demand3}
 use Rattle.system.proofs.CountLaws.{Counts, counts_start, counts-ok, counts-after}
 use Rattle.system.proofs.StateLaws.{State, state-start, state-whole, state-after, counter-after, place_after_lem, Trusted, state-trusted}
@@ -51,9 +54,14 @@ module _ (sys : System) (c : Call) where
     unfolding passed frame_tests is_frame call_tests call_lengths
     runs-frame = split (accepted c.plan) (λ e. rw (counts e, and-true (mask_ok c.plan c.mask))) (λ e. rw e)
 
-    answer-frame : (frame_answer c.plan sys c.sensors c.mask c.faults c.place).answer ≡ call_answer c
-    unfolding answered frame_answer frame_tests call_answer call_tests call_lengths
-    answer-frame = split (accepted c.plan) (λ e. rw (counts e, and-true (mask_ok c.plan c.mask))) (λ e. rw e)
+    refused-alike : refused (frame_tests c.plan sys c.sensors c.mask c.faults c.place) ≡ call_answer c
+    unfolding refused frame_tests call_answer call_tests call_lengths
+    refused-alike = split (accepted c.plan) (λ e. rw (counts e, and-true (mask_ok c.plan c.mask))) (λ e. rw e)
+
+    answer-frame : result_err (frame_answer c.plan sys c.sensors c.mask c.faults c.place) ≡ call_answer c
+    unfolding frame_answer
+    answer-frame =
+        given-err (frame_tests c.plan sys c.sensors c.mask c.faults c.place) (frame_agreement c.plan sys c.sensors c.mask c.faults) ∙ refused-alike
 
 -- the plan of a call that is not refused with 7 is p
 accepted-is : {p : Plan} (c : Call) → (c.plan ≡ p) ⊎ (accepted c.plan ≡ false) → accepted c.plan ≡ true → c.plan ≡ p
@@ -78,17 +86,17 @@ module _ (p : Plan) (c : Call) (plan : (c.plan ≡ p) ⊎ (accepted c.plan ≡ f
     counts e = rw (accepted-is c plan e) (counts-ok p sys past h)
 
     pub next-frame : is_frame c ≡ true → next sys c ≡ system_after p sys c.sensors c.mask c.faults
-    unfolding if_passed next frame_answer
+    unfolding if_passed next frame_system
     next-frame e = rw (runs-frame sys c counts, e, frame_is c plan e)
 
     pub next-refused : is_frame c ≡ false → next sys c ≡ sys
-    unfolding if_passed next frame_answer
+    unfolding if_passed next frame_system
     next-refused e = rw (runs-frame sys c counts, e)
 
 record Called (p : Plan) (sys : System) (s : Memory) (past : List ℕ) (c : Call) : Type 0 where
   state : State p (next sys c) (single_next s c) (since c past)
   place : frame_place c.plan sys c.sensors c.mask c.faults c.place ≡ single_puts s c
-  answer : (frame_answer c.plan sys c.sensors c.mask c.faults c.place).answer ≡ call_answer c
+  answer : result_err (frame_answer c.plan sys c.sensors c.mask c.faults c.place) ≡ call_answer c
 
 call :
     (p : Plan) → accepted p ≡ true → (sys : System) (s : Memory) (past : List ℕ) (c : Call) →
@@ -96,7 +104,7 @@ call :
     (c.plan ≡ p) ⊎ (accepted c.plan ≡ false) →
     (is_frame c ≡ true → MostGood p c.mask past) →
     Called p sys s past c
-unfolding if_passed next single_next frame_answer frame_place
+unfolding if_passed next single_next frame_system frame_place
 call p accept sys s past c st plan most = split (is_frame c) frame refused
   where
     counts : accepted c.plan ≡ true → counts_ok c.plan sys ≡ true
@@ -137,7 +145,7 @@ unfolding places single_places answers call_answers finally single_finally masks
 more p sys s past c cs here rest =
     record {
       setpoints = ap₂ (λ (x : List ℕ) (l : List (List ℕ)). x ∷ l) here.place rest.setpoints;
-      refusals = ap₂ (λ (x : Answer) (l : List Answer). x ∷ l) here.answer rest.refusals;
+      refusals = ap₂ (λ (x : Option Refusal) (l : List (Option Refusal)). x ∷ l) here.answer rest.refusals;
       state = rest.state;
     }
 

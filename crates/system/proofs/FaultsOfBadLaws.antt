@@ -1,9 +1,8 @@
 -- Only bad nodes' bytes matter: fault bytes that agree on the parts of the bad nodes give the same frame.
+use Rattle.std.specs.Prelude.{Option, Some, unwrap_or}
 use mathlib.Core.Path.{◌≡◌, refl, ap}
 use mathlib.Core.Bool.{true}
 use mathlib.Core.List.{List}
-use mathlib.Core.Option
-use mathlib.Core.Option.{Option, some}
 use Prim.Native.Nat.{ℕ, ◌+◌, ◌*◌, ◌≤◌, ◌<◌}
 use native.Mathlib.Nat.{add-zero}
 use native.Mathlib.Omega.{arith}
@@ -57,7 +56,7 @@ module _ (s : Sizes) (f g : List ℕ) (j : ℕ) (same : (k : ℕ) → k < fault_
   setpoint-same a l =
       let o : ℕ = memory_size s + messages_size s + setpoint_size * a in
       let z : fault_at s j + memory_size s + messages_size s + setpoint_size * a ≡ fault_at s j + o = omega arith in
-      rw z (ap some (word_same pattern_size o (omega arith)))
+      rw z (ap Some (word_same pattern_size o (omega arith)))
 
 module _
     (p : Plan) (sys : System) (sensors : List ℕ) (mask : ℕ) (f g : List ℕ)
@@ -104,7 +103,7 @@ module _
     agreement-same : frame_agreement p sys sensors mask f ≡ frame_agreement p sys sensors mask g
     unfolding frame_agreement agreement_by computed_by
     agreement-same =
-        ap (λ (o : Option ℕ). Option.get_or o 0) (least-same _ _ _ _ p.nodes (λ i l. refl) (λ i l t. rw (mailbox-same i l)))
+        ap (λ (o : Option ℕ). unwrap_or o 0) (least-same _ _ _ _ p.nodes (λ i l. refl) (λ i l t. rw (mailbox-same i l)))
 
     pub faults-of-bad :
         (system_after p sys sensors mask f ≡ system_after p sys sensors mask g)

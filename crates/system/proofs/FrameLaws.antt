@@ -1,9 +1,9 @@
 -- One frame that is not refused, beside the single controller: what holds of each node by its good count, and that the plane hands on
 -- the single's setpoints.
+use Rattle.std.specs.Prelude.{Some}
 use mathlib.Core.Path.{◌≡◌, refl, sym, subst, ◌∙◌}
 use mathlib.Core.Bool.{Bool, true, false}
 use mathlib.Core.List.{List}
-use mathlib.Core.Option.{some}
 use Prim.Native.Nat.{ℕ, zero, suc, ◌+◌, ◌*◌, ◌%◌, ◌≤◌, ◌<◌, min}
 use native.Mathlib.Omega.{arith}
 use native.Mathlib.Nat.{mod-eq_of_lt, mod-add-mod}
@@ -281,7 +281,7 @@ module _
     unfolding memory_after computed_by
     work-after j l w = rw (most.good j l w, most.holds j l w) (vote-whole j)
 
-    work-puts : (a j : ℕ) → j < p.nodes → most.work j ≡ true → put_out p sys sensors mask faults a j ≡ some (setpoint p s' a)
+    work-puts : (a j : ℕ) → j < p.nodes → most.work j ≡ true → put_out p sys sensors mask faults a j ≡ Some (setpoint p s' a)
     unfolding put_out
     work-puts a j l w = rw (most.good j l w, work-after j l w)
 

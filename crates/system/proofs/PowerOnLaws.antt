@@ -1,18 +1,13 @@
 -- Laws of the record at power-on.
 use mathlib.Core.Path.{◌≡◌, ap, ◌∙◌}
-use mathlib.Core.Bool.{true, false}
 use Prim.Native.Nat.{ℕ}
 use Rattle.array.specs.Index.{fill}
-use Rattle.answer.specs.declared.Answer.TheVariants.{Done, InvalidPlan}
-use Rattle.answer.specs.Tests.{passed, answered, if_passed}
 use Rattle.plan.specs.declared.Plan.{Plan}
 use Rattle.plan.specs.Known.{period}
-use Rattle.plan.specs.Accepted.{accepted}
-use Rattle.plan_period.specs.Answers.{plan_tests, checked}
 use Rattle.memory.specs.declared.Memory.{Memory}
 use Rattle.memory.specs.Node.{powered_on}
 use Rattle.system.specs.declared.System.{System}
-use Rattle.system.specs.System.{zero_system, first_handed, power_on, system_power_on_answer}
+use Rattle.system.specs.System.{zero_system, first_handed, power_on}
 
 module _ (p : Plan) where
   pub power_on-is :
@@ -28,11 +23,3 @@ module _ (p : Plan) where
       let a₁ : sys.memories ≡ fill (λ k. powered_on p) p.nodes zero_system.memories = a ∙ ap (λ (x : Memory). fill (λ k. x) p.nodes zero_system.memories) e in
       let b₁ : sys.good ≡ fill (λ k. period p) p.nodes zero_system.good = b ∙ ap (λ (x : ℕ). fill (λ k. x) p.nodes zero_system.good) r in
       λ i. record { memories = a₁ i; good = b₁ i; seen = record { handed = h i } }
-
-  pub power_on-refused : (sys : System) → accepted p ≡ false → sys ≡ zero_system → record { answer = InvalidPlan; system = sys } ≡ system_power_on_answer p
-  unfolding system_power_on_answer checked plan_tests answered passed if_passed
-  power_on-refused sys a e = rw (a, e)
-
-  pub power_on-done : (sys : System) → accepted p ≡ true → sys ≡ power_on p → record { answer = Done; system = sys } ≡ system_power_on_answer p
-  unfolding system_power_on_answer checked plan_tests answered passed if_passed
-  power_on-done sys a e = rw (a, e)

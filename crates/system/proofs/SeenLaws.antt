@@ -21,7 +21,7 @@ use Rattle.ballot.proofs.PlaneLaws.{none_more_lem, plane-kept, plane-jump}
 use Rattle.system.specs.declared.System.{System}
 use Rattle.system.specs.Fault.{faults_size}
 use Rattle.system.specs.Frame.{handed_of, put_out, handed_on, system_after, place_after}
-use Rattle.system.specs.FrameCall.{mask_ok, counts_ok, lengths_ok, frame_tests, frame_answer, frame_place}
+use Rattle.system.specs.FrameCall.{mask_ok, counts_ok, lengths_ok, frame_tests, frame_system, frame_place}
 use Rattle.system.specs.Demand.{Call, next, finally}
 use Rattle.system.specs.Seen.{Remembered, runs, NeverMore, Writes, Kept, NoJump}
 use Rattle.system.proofs.DemandLaws.{state-finally}
@@ -92,7 +92,7 @@ module _ (sys : System) (c : Call) (a : ℕ) where
       none_more (put_out c.plan sys c.sensors c.mask c.faults a) c.plan.nodes (handed_of sys a) ≡ true
 
   next-kept : Held → handed_of (next sys c) a ≡ handed_of sys a
-  unfolding next frame_answer if_passed
+  unfolding next frame_system if_passed
   next-kept h =
       split (runs sys c)
       (λ t. rw t (split (ltb a c.plan.actuators)
@@ -127,7 +127,7 @@ module _ (sys : System) (c : Call) (a : ℕ) where
   pub place-next :
       runs sys c ≡ true → c.plan.actuators ≤ length sys.seen.handed →
       frame_place c.plan sys c.sensors c.mask c.faults c.place ≡ from 0 (next sys c).seen.handed 0 c.plan.actuators
-  unfolding frame_place next frame_answer if_passed
+  unfolding frame_place next frame_system if_passed
   place-next t room = rw t (place-seen c.plan sys c.sensors c.mask c.faults c.place (place-room t) room)
 
 pub no_jump : NoJump

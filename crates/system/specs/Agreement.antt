@@ -1,7 +1,8 @@
 -- Request 2026-02 beside demand 3: in a frame of a list that meets its premise, each good node's vote agrees with at least as many as work, so with more than
 -- half.
-use Rattle.std.specs.Prelude.{◌≡◌, true, false, List, [], ◌∷◌, ◌++◌, ℕ, ◌*◌, ◌≤◌, ◌<◌}
+use Rattle.std.specs.Prelude.{◌≡◌, true, false, List, [], ◌∷◌, ◌++◌, ℕ, ◌*◌, ◌≤◌, ◌<◌, Result, Ok}
 use Rattle.array.specs.Index.{how_many}
+use Rattle.answer.specs.declared.Refusal.{Refusal}
 use Rattle.plan.specs.declared.Plan.{Plan}
 use Rattle.plan.specs.Known.{period}
 use Rattle.plan.specs.Accepted.{accepted}
@@ -13,10 +14,10 @@ use Rattle.system.specs.Frame.{agreement_by}
 use Rattle.system.specs.FrameCall.{frame_answer}
 use Rattle.system.specs.Demand.{Call, is_frame, next, finally, Premise, OnePlan}
 
--- the agreement that each call of a list gives
-unfoldable pub agreements : System → List Call → List ℕ
+-- the agreement that each call of a list gives, or its refusal
+unfoldable pub agreements : System → List Call → List (Result ℕ Refusal)
 agreements sys [] = []
-agreements sys (c ∷ cs) = (frame_answer c.plan sys c.sensors c.mask c.faults c.place).agreement ∷ agreements (next sys c) cs
+agreements sys (c ∷ cs) = frame_answer c.plan sys c.sensors c.mask c.faults c.place ∷ agreements (next sys c) cs
 
 -- a frame c after the calls cs
 module _ (p : Plan) (cs : List Call) (c : Call) where
@@ -32,7 +33,9 @@ module _ (p : Plan) (cs : List Call) (c : Call) where
     pub nodes :
         (i : ℕ) → i < p.nodes → bad c.mask i ≡ false → working_in ≤ agreement_by p record_before c.sensors c.mask c.faults i
     -- what the call gives
-    pub least : working_in ≤ (frame_answer c.plan record_before c.sensors c.mask c.faults c.place).agreement
+    pub agreed : ℕ
+    pub gives : frame_answer c.plan record_before c.sensors c.mask c.faults c.place ≡ Ok agreed
+    pub least : working_in ≤ agreed
 
 abbrev pub Agreement : Type 0
 Agreement =

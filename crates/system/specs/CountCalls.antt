@@ -1,13 +1,13 @@
 -- The listing's two counts: 7, 9
-use Rattle.std.specs.Prelude.{Bool, ◌&&◌, List, [], ◌∷◌, ℕ, eqb, get_or}
+use Rattle.std.specs.Prelude.{Bool, ◌&&◌, List, [], ◌∷◌, ℕ, eqb, get_or, Result}
 use Rattle.array.specs.Index.{how_many, all_below}
-use Rattle.answer.specs.Tests.{Test, test, answered, if_passed}
+use Rattle.answer.specs.declared.Refusal.{Refusal}
+use Rattle.answer.specs.Tests.{Test, test, given}
 use Rattle.plan.specs.declared.Plan.{Plan}
 use Rattle.plan.specs.Known.{period}
 use Rattle.plan.specs.Accepted.{accepted}
 use Rattle.memory.specs.declared.Memory.{Memory}
 use Rattle.system.specs.declared.System.{System}
-use Rattle.system.specs.declared.Counted.{Counted}
 use Rattle.system.specs.Counts.{is_working}
 use Rattle.system.specs.Frame.{memory_of}
 use Rattle.system.specs.FrameCall.{mask_ok, counts_ok}
@@ -15,12 +15,8 @@ use Rattle.system.specs.FrameCall.{mask_ok, counts_ok}
 unfoldable pub working_tests : Plan → System → ℕ → List Test
 working_tests p sys mask = test 7 (accepted p) ∷ test 9 (mask_ok p mask && counts_ok p sys) ∷ []
 
-unfoldable pub working_answer : Plan → System → ℕ → Counted
-working_answer p sys mask =
-    record {
-      answer = answered (working_tests p sys mask);
-      count = if_passed (working_tests p sys mask) (how_many (is_working (period p) mask sys.good) p.nodes) 0;
-    }
+unfoldable pub working_answer : Plan → System → ℕ → Result ℕ Refusal
+working_answer p sys mask = given (working_tests p sys mask) (how_many (is_working (period p) mask sys.good) p.nodes)
 
 -- "nodes whose memory then equals the single controller's": counter and C cells, by bits
 unfoldable pub same_memory : Plan → Memory → Memory → Bool
@@ -29,9 +25,5 @@ same_memory p m s = eqb m.counter s.counter && all_below (λ c. eqb (get_or m.ce
 unfoldable pub equal_tests : Plan → System → List Test
 equal_tests p sys = test 7 (accepted p) ∷ test 9 (counts_ok p sys) ∷ []
 
-unfoldable pub equal_answer : Plan → System → Memory → Counted
-equal_answer p sys s =
-    record {
-      answer = answered (equal_tests p sys);
-      count = if_passed (equal_tests p sys) (how_many (λ i. same_memory p (memory_of sys i) s) p.nodes) 0;
-    }
+unfoldable pub equal_answer : Plan → System → Memory → Result ℕ Refusal
+equal_answer p sys s = given (equal_tests p sys) (how_many (λ i. same_memory p (memory_of sys i) s) p.nodes)

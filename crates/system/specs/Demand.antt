@@ -1,8 +1,9 @@
 -- Demand 3, beside the mission's words. A list of frame calls on one system from power-on, each with the record that the one before left.
-use Rattle.std.specs.Prelude.{◌≡◌, Bool, true, false, not, cond, ◌&&◌, List, [], ◌∷◌, ◌⊎◌, ℕ, ◌*◌, ◌^◌, ◌<◌, get_or, length, take}
+use Rattle.std.specs.Prelude.{◌≡◌, Bool, true, false, not, cond, ◌&&◌, List, [], ◌∷◌, Option, ◌⊎◌, ℕ, ◌*◌, ◌^◌, ◌<◌, get_or, length, take}
 use Rattle.array.specs.Index.{how_many}
-use Rattle.answer.specs.declared.Answer.{Answer}
-use Rattle.answer.specs.Tests.{Test, test, passed, answered}
+use Rattle.std.specs.Result.{result_err}
+use Rattle.answer.specs.declared.Refusal.{Refusal}
+use Rattle.answer.specs.Tests.{Test, test, passed, refused}
 use Rattle.plan.specs.declared.Plan.{Plan}
 use Rattle.plan.specs.Known.{period}
 use Rattle.plan.specs.Accepted.{accepted}
@@ -13,7 +14,7 @@ use Rattle.system.specs.System.{power_on}
 use Rattle.system.specs.Fault.{bad}
 use Rattle.system.specs.Frame.{memory_of}
 use Rattle.system.specs.Single.{single_place}
-use Rattle.system.specs.FrameCall.{mask_ok, lengths_ok, frame_answer, frame_place}
+use Rattle.system.specs.FrameCall.{mask_ok, lengths_ok, frame_answer, frame_system, frame_place}
 
 -- a frame call: "each with sensors, mask, fault bytes and place of its own", and a plan record of its own
 pub record Call : Type 0 where
@@ -33,21 +34,21 @@ module _ (c : Call) where
   unfoldable pub call_tests : List Test
   call_tests = test 7 (accepted c.plan) ∷ test 9 (mask_ok c.plan c.mask) ∷ test 8 call_lengths ∷ []
 
-  unfoldable pub call_answer : Answer
-  call_answer = answered call_tests
+  unfoldable pub call_answer : Option Refusal
+  call_answer = refused call_tests
 
   -- "A frame is a frame call not refused"
   unfoldable pub is_frame : Bool
   is_frame = passed call_tests
 
--- ---- the press: what each call answers, what stands in its place afterwards, and the record after the list
+-- ---- the press: what each call is refused with, if it is; what stands in its place afterwards; and the record after the list
 
 unfoldable pub next : System → Call → System
-next sys c = (frame_answer c.plan sys c.sensors c.mask c.faults c.place).system
+next sys c = frame_system c.plan sys c.sensors c.mask c.faults c.place
 
-unfoldable pub answers : System → List Call → List Answer
+unfoldable pub answers : System → List Call → List (Option Refusal)
 answers sys [] = []
-answers sys (c ∷ cs) = (frame_answer c.plan sys c.sensors c.mask c.faults c.place).answer ∷ answers (next sys c) cs
+answers sys (c ∷ cs) = result_err (frame_answer c.plan sys c.sensors c.mask c.faults c.place) ∷ answers (next sys c) cs
 
 unfoldable pub places : System → List Call → List (List ℕ)
 places sys [] = []
@@ -70,7 +71,7 @@ unfoldable pub single_finally : Memory → List Call → Memory
 single_finally s [] = s
 single_finally s (c ∷ cs) = single_finally (single_next s c) cs
 
-unfoldable pub call_answers : List Call → List Answer
+unfoldable pub call_answers : List Call → List (Option Refusal)
 call_answers [] = []
 call_answers (c ∷ cs) = call_answer c ∷ call_answers cs
 

@@ -1,7 +1,6 @@
 -- Document 01, 'Faults': "for each node its memory after the frame (laid out as a message with all cells), its n messages by receiver, its A
 -- setpoints (8 bytes each); in all n × ((n + 1) × (2 + 8C) + 8A). Only bad nodes' bytes matter."
-use Rattle.std.specs.Prelude.{Bool, List, ℕ, ◌+◌, ◌*◌}
-use Rattle.std.proofs.Math.Option.{Option, some}
+use Rattle.std.specs.Prelude.{Bool, List, ℕ, ◌+◌, ◌*◌, Option, Some}
 use Rattle.array.specs.Index.{fill, from}
 use Rattle.array.specs.Word.{be}
 use Rattle.array.specs.Bit.{bit}
@@ -57,4 +56,4 @@ fault_message s faults sender receiver = from 0 faults (fault_message_at s sende
 
 -- what bad node i puts out for actuator a
 unfoldable pub fault_setpoint : Sizes → List ℕ → ℕ → ℕ → Option ℕ
-fault_setpoint s faults i a = some (be pattern_size faults (fault_setpoint_at s i a))
+fault_setpoint s faults i a = Some (be pattern_size faults (fault_setpoint_at s i a))

@@ -1,7 +1,5 @@
 -- A frame of the whole system under faults.
-use Rattle.std.specs.Prelude.{not, cond, List, ℕ, get_or}
-use Rattle.std.proofs.Math.Option
-use Rattle.std.proofs.Math.Option.{Option, some}
+use Rattle.std.specs.Prelude.{not, cond, List, ℕ, get_or, Option, Some, unwrap_or}
 use Rattle.array.specs.Index.{fill, joined, least}
 use Rattle.plan.specs.declared.Plan.{Plan}
 use Rattle.plan.specs.Known.{period}
@@ -44,7 +42,7 @@ module _ (p : Plan) (sys : System) (sensors : List ℕ) (mask : ℕ) (faults : L
 
   -- what node j puts out for actuator a
   unfoldable pub put_out : ℕ → ℕ → Option ℕ
-  put_out a j = cond (bad mask j) (fault_setpoint (sizes_of p) faults j a) (some (setpoint p (memory_after j) a))
+  put_out a j = cond (bad mask j) (fault_setpoint (sizes_of p) faults j a) (Some (setpoint p (memory_after j) a))
 
   -- what the plane hands on for actuator a
   unfoldable pub handed_on : ℕ → ℕ
@@ -67,4 +65,4 @@ module _ (p : Plan) (sys : System) (sensors : List ℕ) (mask : ℕ) (faults : L
 
   -- Request 2026-02: "the least over the good nodes, or 0 if all are bad"
   unfoldable pub frame_agreement : ℕ
-  frame_agreement = Option.get_or (least (λ i. not (bad mask i)) agreement_by p.nodes) 0
+  frame_agreement = unwrap_or (least (λ i. not (bad mask i)) agreement_by p.nodes) 0

@@ -4,7 +4,7 @@
 ghost use Rattle.std.specs.Prelude.{◌≡◌};
 ghost use Rattle.system.specs.System.{system_power_on_answer};
 
-use answer::Answer;
+use answer::Refusal;
 use memory::Memory;
 use plan::Plan;
 
@@ -24,27 +24,6 @@ pub struct System {
     pub seen: Seen,
 }
 
-#[derive(Clone, Copy)]
-pub struct Started {
-    pub answer: Answer,
-    pub system: System,
-}
-
-// What a frame call gives beside the setpoints in its place.
-#[derive(Clone, Copy)]
-pub struct Framed {
-    pub answer: Answer,
-    pub system: System,
-    pub agreement: usize,
-}
-
-// A count of nodes.
-#[derive(Clone, Copy)]
-pub struct Counted {
-    pub answer: Answer,
-    pub count: usize,
-}
-
 impl System {
     pub const NODES: usize = Plan::NODES;
 
@@ -56,21 +35,10 @@ impl System {
 
     pub const ACTUATORS: usize = Plan::ACTUATORS;
 
-    pub fn power_on(plan: Plan) -> Started
+    pub fn power_on(plan: Plan) -> Result<System, Refusal>
         ensures { result ≡ system_power_on_answer plan }
     {
-        let period = plan_period::accepted_period(plan);
-        if period == 0 {
-            let system = System::zero();
-            return Started {
-                answer: Answer::InvalidPlan,
-                system,
-            };
-        }
-        let system = System::started(plan, period);
-        Started {
-            answer: Answer::Done,
-            system,
-        }
+        let period = plan_period::recovery_period(plan)?;
+        Ok(System::started(plan, period))
     }
 }

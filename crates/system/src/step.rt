@@ -20,18 +20,16 @@ impl Seen {
         ensures { result.handed ≡ fill (λ a. get_or initial.now (get_or table.now a 0) 0) actuators (replicate most_actuators 0) }
     {
         let mut handed = [0u64; System::ACTUATORS];
-        let mut a: usize = 0;
-        while a < actuators {
+        for a in 0..actuators {
             let cell = table[a];
             handed[a] = initial[cell];
-            a += 1;
         }
         Seen { handed }
     }
 }
 
 impl System {
-    // The record beside a refusal.
+    // The all-zero record.
     pub fn zero() -> System
         ensures { result ≡ zero_system }
     {
@@ -51,15 +49,13 @@ impl System {
         ensures { result ≡ power_on plan }
     {
         let nodes = plan.nodes;
-        let memory = memory::step::power_on(plan);
+        let memory = memory::step::power_on(&plan);
         let full = period as u16;
         let mut system = System::zero();
         system.seen = Seen::started(&plan.initial, &plan.actuator_cell, plan.actuators);
-        let mut i: usize = 0;
-        while i < nodes {
+        for i in 0..nodes {
             system.memories[i] = memory;
             system.good[i] = full;
-            i += 1;
         }
         system
     }

@@ -1,14 +1,15 @@
--- Laws of answers as numbers: number and line are got back.
-use mathlib.Core.Path.{◌≡◌}
+-- Laws of refusals as numbers: number and line are got back.
+use mathlib.Core.Path.{◌≡◌, refl}
 use Prim.Native.Nat.{ℕ, ◌+◌, ◌*◌, ◌/◌, ◌%◌, ◌^◌, ◌≤◌, ◌<◌}
 use native.Mathlib.Omega.{arith}
-use Rattle.answer.specs.declared.Answer.{Answer}
-use Rattle.answer.specs.declared.Answer.TheVariants.{Done, TextLength, Malformed, Header, OutOfOrder, OutOfRange, Unrecoverable, InvalidPlan, WrongLength, MaskOrCount, RunLine, NodesOrLength, PageAccess}
+use Rattle.std.specs.Prelude.{Option, None, Some}
+use Rattle.answer.specs.declared.Refusal.{Refusal}
+use Rattle.answer.specs.declared.Refusal.TheVariants.{TextLength, Malformed, Header, OutOfOrder, OutOfRange, Unrecoverable, InvalidPlan, WrongLength, MaskOrCount, RunLine, NodesOrLength, PageAccess}
 use Rattle.answer.specs.Refusal.{number_of, line_of}
-use Rattle.system_words.specs.Words.{code_of}
+use Rattle.answer.proofs.TestLaws.{number_given, line_given}
+use Rattle.system_words.specs.Words.{code_with}
 
-pub number_small : (a : Answer) → number_of a ≤ 255
-number_small Done = omega arith
+pub number_small : (a : Refusal) → number_of a ≤ 255
 number_small TextLength = omega arith
 number_small (Malformed line) = omega arith
 number_small Header = omega arith
@@ -25,14 +26,18 @@ number_small PageAccess = omega arith
 pub sum_fits : (n l : ℕ) → n ≤ 255 → n + l * 256 % 18446744073709551616 < 18446744073709551616
 sum_fits n l h = omega (arith, h)
 
-pub code_sum : (a : Answer) {n l : ℕ} → n ≡ number_of a → l ≡ line_of a → n + l * 256 % 18446744073709551616 ≡ code_of a
-unfolding code_of
+pub code_sum : (a : Refusal) {n l : ℕ} → n ≡ number_of a → l ≡ line_of a → n + l * 256 % 18446744073709551616 ≡ code_with (Some a)
+unfolding code_with
 code_sum a {n} {l} e f = omega (arith, e, f)
 
-pub code-number : (a : Answer) → code_of a % 256 ≡ number_of a
-unfolding code_of
-code-number a = omega (arith, number_small a)
+-- of a call that is not refused both are 0
 
-pub code-line : (a : Answer) → line_of a < 2 ^ 56 → code_of a / 256 ≡ line_of a
-unfolding code_of
-code-line a l = omega (arith, number_small a, l)
+pub code-number : (refused : Option Refusal) → code_with refused % 256 ≡ number_given refused
+unfolding code_with
+code-number None = refl
+code-number (Some a) = omega (arith, number_small a)
+
+pub code-line : (refused : Option Refusal) → line_given refused < 2 ^ 56 → code_with refused / 256 ≡ line_given refused
+unfolding code_with
+code-line None l = refl
+code-line (Some a) l = omega (arith, number_small a, l)

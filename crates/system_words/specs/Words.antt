@@ -1,7 +1,8 @@
--- Answers, memories and system records as 64-bit words, for callers that hand over nothing else. This layout is ours; document 01 has none. Any words are some memory, and some record.
-use Rattle.std.specs.Prelude.{cond, List, ◌∷◌, ℕ, zero, suc, ◌+◌, ◌*◌, ◌%◌, ◌^◌, min, eqb, get_or, set}
+-- Refusals, memories and system records as 64-bit words, for callers that hand over nothing else. This layout is ours; document 01 has none. Any words are some memory, and some record.
+use Rattle.std.specs.Prelude.{List, ◌∷◌, ℕ, zero, suc, ◌+◌, ◌*◌, ◌%◌, ◌^◌, min, get_or, set, Option, None, Some, Result, Ok, Err}
+use Rattle.std.specs.Result.{result_err}
 use Rattle.array.specs.Index.{fill, from}
-use Rattle.answer.specs.declared.Answer.{Answer}
+use Rattle.answer.specs.declared.Refusal.{Refusal}
 use Rattle.answer.specs.Refusal.{number_of, line_of}
 use Rattle.plan.specs.Limits.{most_nodes, most_cells, most_actuators}
 use Rattle.memory.specs.declared.Memory.{Memory}
@@ -9,15 +10,20 @@ use Rattle.system.specs.declared.System.{System}
 use Rattle.system.specs.System.{zero_system}
 use Rattle.system.specs.Frame.{memory_of, good_of, handed_of}
 
--- ---- an answer
+-- ---- what a call gives
 
--- number + 256 × line, in 64 bits
-unfoldable pub code_of : Answer → ℕ
-code_of a = number_of a + 256 * line_of a % 2 ^ 64
+-- number + 256 × line, in 64 bits; 0 where nothing is refused
+unfoldable pub code_with : Option Refusal → ℕ
+code_with None = 0
+code_with (Some r) = number_of r + 256 * line_of r % 2 ^ 64
 
--- words after a call that gives this answer: beside a refusal every one stays
-unfoldable pub if_done : Answer → List ℕ → List ℕ → List ℕ
-if_done a new old = cond (eqb (number_of a) 0) new old
+unfoldable pub code_of : {A : Type 0} → Result A Refusal → ℕ
+code_of given = code_with (result_err given)
+
+-- words after a call that gives this: beside a refusal every one stays
+unfoldable pub if_done : {A : Type 0} → Result A Refusal → List ℕ → List ℕ → List ℕ
+if_done (Ok x) new old = new
+if_done (Err r) new old = old
 
 -- ---- a memory: its counter, then its patterns
 
@@ -40,9 +46,9 @@ memory_words m = m.counter ∷ m.cells
 unfoldable pub with_memory : Memory → ℕ → List ℕ → List ℕ
 with_memory m at ws = stored_from (λ k. get_or (memory_words m) k 0) at memory_count ws
 
--- a memory's words after a call that gives this answer and this memory
-unfoldable pub memory_given : Answer → Memory → List ℕ → List ℕ
-memory_given a m ws = if_done a (with_memory m 0 ws) ws
+-- a memory's words after a call that gives this, and this memory
+unfoldable pub memory_given : {A : Type 0} → Result A Refusal → Memory → List ℕ → List ℕ
+memory_given given m ws = if_done given (with_memory m 0 ws) ws
 
 -- ---- a system: the memories of its nodes, their good counts, then the values that the plane remembers
 
@@ -80,6 +86,6 @@ with_memories sys (suc j) ws = with_memory (memory_of sys j) (node_at j) (with_m
 unfoldable pub with_system : ℕ → System → List ℕ → List ℕ
 with_system n sys ws = stored_from (handed_of sys) handed_at most_actuators (stored_from (good_of sys) good_at n (with_memories sys n ws))
 
--- a system's words after a call on a plan of n nodes that gives this answer and this record
-unfoldable pub system_given : Answer → ℕ → System → List ℕ → List ℕ
-system_given a n sys ws = if_done a (with_system n sys ws) ws
+-- a system's words after a call on a plan of n nodes that gives this, and this record
+unfoldable pub system_given : {A : Type 0} → Result A Refusal → ℕ → System → List ℕ → List ℕ
+system_given given n sys ws = if_done given (with_system n sys ws) ws

@@ -1,4 +1,4 @@
-// Answers, memories and system records as numbers and words.
+// Refusals, memories and system records as numbers and words.
 #![tactic(auto)]
 
 pub mod step;

@@ -1,12 +1,12 @@
 // From words to records and back, for any words. A word past the end of a slice reads as 0, and none is stored there: so nothing has to be known of a slice's length, which is lost
 // where an array is lent as a slice. The compiler knows it and makes no test.
-ghost use Rattle.std.specs.Prelude.{◌≡◌, ◌+◌, ◌%◌, ◌<◌, ◌≤◌, min, length, get_or, set};
+ghost use Rattle.std.specs.Prelude.{◌≡◌, ◌+◌, ◌%◌, ◌<◌, ◌≤◌, min, length, get_or, set, Some};
 ghost use Rattle.array.specs.Index.{from};
 ghost use Rattle.plan.specs.Limits.{most_nodes, most_cells, most_actuators};
-ghost use Rattle.answer.specs.Refusal.{number_of};
-ghost use Rattle.system_words.specs.Words.{code_of, memory_at, stored_from, with_memory, handed_at, system_count, system_of_words, with_memories, with_system, memory_given, system_given};
+ghost use Rattle.system_words.specs.Words.{code_with, memory_at, stored_from, with_memory, handed_at, system_count, system_of_words, with_memories, with_system};
 
-use answer::Answer;
+use answer::Refusal;
+use array::step::entry_or;
 use memory::Memory;
 use plan::Plan;
 use system::{Seen, System};
@@ -20,19 +20,11 @@ pub const HANDED: usize = GOOD + System::NODES;
 
 pub const SYSTEM: usize = HANDED + System::ACTUATORS;
 
-pub fn code(answer: Answer) -> u64
-    ensures { result ≡ code_of answer }
+// What a refused call returns; one that is not refused returns 0.
+pub fn code(refusal: Refusal) -> u64
+    ensures { result ≡ code_with (Some refusal) }
 {
-    answer.number() as u64 + ((answer.line() as u64) << 8)
-}
-
-pub fn word(words: &[u64], i: usize) -> u64
-    ensures { result ≡ get_or words.now i 0 }
-{
-    if i < words.len() {
-        return words[i];
-    }
-    0
+    refusal.number() as u64 + ((refusal.line() as u64) << 8)
 }
 
 pub fn put_word(words: &mut [u64], i: usize, x: u64)
@@ -40,6 +32,17 @@ pub fn put_word(words: &mut [u64], i: usize, x: u64)
 {
     if i < words.len() {
         words[i] = x;
+    }
+}
+
+// Words copied to a place that is as long. std's `copy_from_slice` is compiled to a call of memmove, and the library for C may need memcpy and memset alone.
+fn copy(from: &[u64], to: &mut [u64])
+    requires { length from.now ≡ length to.old }
+    ensures { to.new ≡ from.now }
+{
+    let n = from.len();
+    for k in 0..n {
+        to[k] = from[k];
     }
 }
 
@@ -58,13 +61,11 @@ fn patterns(words: &[u64], at: usize, cells: &mut [u64])
 {
     let end = at + Plan::CELLS;
     if end <= words.len() {
-        array::step::copy(&words[at..end], cells);
+        copy(&words[at..end], cells);
         return;
     }
-    let mut c: usize = 0;
-    while c < Plan::CELLS {
-        cells[c] = word(words, at + c);
-        c += 1;
+    for c in 0..Plan::CELLS {
+        cells[c] = entry_or(words, at + c, 0);
     }
 }
 
@@ -74,7 +75,7 @@ pub fn memory(words: &[u64], at: usize) -> Memory
 {
     let mut cells = [0u64; Plan::CELLS];
     patterns(words, at + 1, &mut cells);
-    let counter = low(word(words, at));
+    let counter = low(entry_or(words, at, 0));
     Memory { counter, cells }
 }
 
@@ -86,13 +87,11 @@ pub fn put_memory(memory: Memory, at: usize, words: &mut [u64])
     let first = at + 1;
     let end = first + Plan::CELLS;
     if end <= words.len() {
-        array::step::copy(&memory.cells, &mut words[first..end]);
+        copy(&memory.cells, &mut words[first..end]);
         return;
     }
-    let mut c: usize = 0;
-    while c < Plan::CELLS {
+    for c in 0..Plan::CELLS {
         put_word(words, first + c, memory.cells[c]);
-        c += 1;
     }
 }
 
@@ -109,10 +108,8 @@ fn seen(words: &[u64]) -> Seen
     ensures { result.handed ≡ from 0 words.now handed_at most_actuators }
 {
     let mut handed = [0u64; System::ACTUATORS];
-    let mut a: usize = 0;
-    while a < System::ACTUATORS {
-        handed[a] = word(words, HANDED + a);
-        a += 1;
+    for a in 0..System::ACTUATORS {
+        handed[a] = entry_or(words, HANDED + a, 0);
     }
     Seen { handed }
 }
@@ -123,12 +120,10 @@ pub fn system(words: &[u64]) -> System
     let zero = memory::zero_memory();
     let mut memories = [zero; System::NODES];
     let mut good = [0u16; System::NODES];
-    let mut j: usize = 0;
-    while j < System::NODES {
+    for j in 0..System::NODES {
         let m = memory(words, MEMORY * j);
         memories[j] = m;
-        good[j] = at_most(word(words, GOOD + j));
-        j += 1;
+        good[j] = at_most(entry_or(words, GOOD + j, 0));
     }
     System {
         memories,
@@ -141,22 +136,18 @@ fn put_memories(nodes: usize, system: System, words: &mut [u64])
     requires { nodes ≤ most_nodes }
     ensures { words.new ≡ with_memories system nodes words.old }
 {
-    let mut j: usize = 0;
-    while j < nodes {
+    for j in 0..nodes {
         let m = system.memories[j];
         put_memory(m, MEMORY * j, words);
-        j += 1;
     }
 }
 
 fn put_seen(seen: Seen, words: &mut [u64])
     ensures { words.new ≡ stored_from (λ a. get_or seen.handed a 0) handed_at most_actuators words.old }
 {
-    let mut k: usize = 0;
-    while k < System::ACTUATORS {
+    for k in 0..System::ACTUATORS {
         let x = seen.handed[k];
         put_word(words, HANDED + k, x);
-        k += 1;
     }
 }
 
@@ -166,30 +157,9 @@ pub fn put_system(nodes: usize, system: System, words: &mut [u64])
     ensures { words.new ≡ with_system nodes system words.old }
 {
     put_memories(nodes, system, words);
-    let mut j: usize = 0;
-    while j < nodes {
+    for j in 0..nodes {
         let x = system.good[j];
         put_word(words, GOOD + j, x as u64);
-        j += 1;
     }
     put_seen(system.seen, words);
-}
-
-// ---- after a call: beside a refusal every word stays
-
-pub fn give_memory(answer: Answer, memory: Memory, words: &mut [u64])
-    ensures { words.new ≡ memory_given answer memory words.old }
-{
-    if answer.number() == 0 {
-        put_memory(memory, 0, words);
-    }
-}
-
-pub fn give_system(answer: Answer, nodes: usize, system: System, words: &mut [u64; SYSTEM])
-    requires { number_of answer ≡ 0 → nodes ≤ most_nodes }
-    ensures { words.new ≡ system_given answer nodes system words.old }
-{
-    if answer.number() == 0 {
-        put_system(nodes, system, words);
-    }
 }

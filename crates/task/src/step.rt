@@ -30,18 +30,8 @@ fn op_value(op: Op, target: usize, sensors: &[u64], cells: &[u64], cams: &[u32; 
     }
 }
 
-pub fn run_task(cells: &mut [u64; Plan::CELLS], t: Task, sensors: &[u64], cams: &[u32; cam::SIZE])
-    requires { (length cells.old ≡ most_cells) × (t.target < most_cells) × (op_ok most_cells (length sensors.now) t.target t.op ≡ true) × (cams.now ≡ cam_table) }
-    ensures { cells.new ≡ set cells.old t.target (op_value t.op t.target sensors.now cells.old) }
-{
-    let op = t.op;
-    let target = t.target;
-    let v = op_value(op, target, sensors, cells, cams);
-    cells[target] = v;
-}
-
-// The same on a part that holds a memory's cells.
-pub fn run_task_in(cells: &mut [u64], t: Task, sensors: &[u64], cams: &[u32; cam::SIZE])
+// A memory's cells, in an array or in a part of one.
+pub fn run_task(cells: &mut [u64], t: Task, sensors: &[u64], cams: &[u32; cam::SIZE])
     requires { (length cells.old ≡ most_cells) × (t.target < most_cells) × (op_ok most_cells (length sensors.now) t.target t.op ≡ true) × (cams.now ≡ cam_table) }
     ensures { cells.new ≡ set cells.old t.target (op_value t.op t.target sensors.now cells.old) }
 {

@@ -3,18 +3,28 @@ ghost use Rattle.std.specs.Prelude.{◌≡◌, ◌+◌, ◌≤◌, length};
 ghost use Rattle.array.specs.Code.{placed};
 ghost use Rattle.word.specs.Word.{word_at, bytes_of, low_run};
 
+// Each width by the library's function of its type: a trait over the two types would have these bodies again.
 pub fn read_le4(s: &[u8], i: usize) -> u32
     requires { i + 4 ≤ length s.now }
     ensures { result ≡ word_at 4 s.now i }
 {
-    s[i] as u32 + s[i + 1] as u32 * 256 + s[i + 2] as u32 * 65536 + s[i + 3] as u32 * 16777216
+    u32::from_le_bytes([s[i], s[i + 1], s[i + 2], s[i + 3]])
 }
 
 pub fn read_le8(s: &[u8], i: usize) -> u64
     requires { i + 8 ≤ length s.now }
     ensures { result ≡ word_at 8 s.now i }
 {
-    read_le4(s, i) as u64 + read_le4(s, i + 4) as u64 * 4294967296
+    u64::from_le_bytes([
+        s[i],
+        s[i + 1],
+        s[i + 2],
+        s[i + 3],
+        s[i + 4],
+        s[i + 5],
+        s[i + 6],
+        s[i + 7],
+    ])
 }
 
 // The four lowest bytes of a number, stored.
@@ -22,18 +32,15 @@ pub fn write_le4(out: &mut [u8], i: usize, w: u64)
     requires { i + 4 ≤ length out.old }
     ensures { out.new ≡ placed out.old i (bytes_of 4 w) }
 {
-    out[i] = (w % 256) as u8;
-    out[i + 1] = (w / 256 % 256) as u8;
-    out[i + 2] = (w / 65536 % 256) as u8;
-    out[i + 3] = (w / 16777216 % 256) as u8;
+    let low = (w % 4294967296) as u32;
+    out[i..i + 4].copy_from_slice(&low.to_le_bytes());
 }
 
 pub fn write_le8(out: &mut [u8], i: usize, w: u64)
     requires { i + 8 ≤ length out.old }
     ensures { out.new ≡ placed out.old i (bytes_of 8 w) }
 {
-    write_le4(out, i, w);
-    write_le4(out, i + 4, w / 4294967296);
+    out[i..i + 8].copy_from_slice(&w.to_le_bytes());
 }
 
 // How many of a number's eight bytes are zero, from the lowest up to the first other.

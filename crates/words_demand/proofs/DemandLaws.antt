@@ -1,22 +1,21 @@
 -- The exported calls carry a record from call to call in its words: so demand 3 holds of them, and what the plane remembers is right.
+use Rattle.std.specs.Prelude.{Option, None, Some}
 use mathlib.Core.Path.{◌≡◌, refl, sym, ap, ap₂, ◌∙◌}
 use mathlib.Core.Bool.{true}
 use mathlib.Core.List.{List, [], ◌∷◌}
 use mathlib.Core.Logic.{inl, inr, ⊎_elim}
-use mathlib.Core.Option.{Option, none, some}
 use Prim.Native.Nat.{ℕ, suc, ◌^◌, ◌<◌}
 use native.Mathlib.Omega.{arith}
 use lib.Dec.{ltb}
 use lib.ListN.{length, get_or}
 use lib.Seq.{ext_get_or}
-use borrow.Author.Tests.{ltb-true, ne_eqb}
+use borrow.Author.Tests.{ltb-true}
 use Rattle.array.specs.Index.{from}
 use Rattle.array.proofs.TestLaws.{split, and_left}
 use Rattle.array.proofs.PlacesLaws.{fill-length, from-length, from_at}
 use Rattle.array.proofs.WordLaws.{be-bound}
-use Rattle.answer.specs.Refusal.{number_of}
-use Rattle.answer.specs.Tests.{Test, passed, answered, if_passed}
-use Rattle.answer.proofs.TestLaws.{answered-done, answered-refused}
+use Rattle.answer.specs.Tests.{Test, passed, refused, unless, given, if_passed}
+use Rattle.answer.proofs.TestLaws.{refused-none, refused-some}
 use Rattle.plan.specs.declared.Plan.{Plan}
 use Rattle.plan.specs.Limits.{most_nodes}
 use Rattle.plan.specs.Known.{period}
@@ -24,7 +23,7 @@ use Rattle.plan.specs.Accepted.{accepted}
 use Rattle.plan.specs.Sizes.{sizes_of}
 use Rattle.plan.proofs.AcceptedLaws.{Shape, shape-of-accepted, bound-small}
 use Rattle.plan.proofs.PeriodLaws.{period-bound}
-use Rattle.plan_period.specs.Answers.{plan_tests, checked}
+use Rattle.plan_period.specs.Answers.{plan_tests}
 use Rattle.plan_words.specs.Words.{plan_of_words}
 use Rattle.ballot.specs.Majority.{majority, or_own}
 use Rattle.memory.specs.Size.{counter_size}
@@ -35,11 +34,11 @@ use Rattle.system.specs.System.{zero_system, power_on, system_power_on_answer}
 use Rattle.system.specs.Fault.{bad, fault_at, fault_memory}
 use Rattle.system.specs.Counts.{count_after, good_after}
 use Rattle.system.specs.Frame.{memory_of, computed_by, mailbox_of, memory_after, system_after}
-use Rattle.system.specs.FrameCall.{frame_tests, frame_answer}
+use Rattle.system.specs.FrameCall.{frame_tests, frame_answer, frame_system}
 use Rattle.system.specs.Demand.{next, answers, places, finally, OnePlan, Tolerated}
 use Rattle.system.proofs.DemandLaws.{demand3}
 use Rattle.system.proofs.SeenLaws.{remembered}
-use Rattle.system_words.specs.Words.{if_done, memory_count, memory_words, node_at, system_count, with_system, system_given}
+use Rattle.system_words.specs.Words.{code_of, if_done, memory_count, memory_words, node_at, system_count, with_system, system_given}
 use Rattle.system_words.proofs.HeldLaws.{Fits, Shaped, Held, held-read, stored-held, filled-shaped, filled-held, zero-shaped}
 use Rattle.words_demand.specs.Calls.{words_started}
 use Rattle.words_demand.specs.Demand.{WordsCall, call_of, calls, words_next, codes, words_places, words_finally, codes_of, OneWords, Demand3OfWords, RememberedOfWords}
@@ -48,8 +47,8 @@ use Rattle.words_demand.specs.Demand.{WordsCall, call_of, calls, words_next, cod
 
 or_own-small : (frames own : ℕ) (o : Option ℕ) → own < frames → or_own frames own o < frames
 unfolding or_own
-or_own-small frames own none l = l
-or_own-small frames own (some v) l = split (ltb v frames) (λ t. rw t (ltb-true v frames t)) (λ t. rw t l)
+or_own-small frames own None l = l
+or_own-small frames own (Some v) l = split (ltb v frames) (λ t. rw t (ltb-true v frames t)) (λ t. rw t l)
 
 period-fits : (p : Plan) → Shape p → period p < 2 ^ 16
 period-fits p shape = omega (arith, period-bound p, bound-small p shape)
@@ -97,7 +96,7 @@ power_on-shaped p shape =
     filled-shaped zero_system _ _ p.nodes _ p.actuators (λ j l. record { counter = omega (arith, powered_on-counter p); cells = powered_on-length p shape }) (λ j. period-fits p shape) zero-shaped
 
 start-held : (plan start : List ℕ) → accepted (plan_of_words plan) ≡ true → length start ≡ system_count → Held (words_started plan start) (power_on (plan_of_words plan))
-unfolding system_given if_done system_power_on_answer checked if_passed plan_tests passed answered
+unfolding system_given if_done system_power_on_answer plan_tests given unless refused
 start-held plan start accept long =
     rw accept
     (stored-held (power_on (plan_of_words plan)) start long most_nodes (omega arith) (power_on-shaped (plan_of_words plan) (shape-of-accepted (plan_of_words plan) accept)) (λ j a l. absurd (omega arith)))
@@ -116,14 +115,14 @@ module _ {ws : List ℕ} {sys : System} (h : Held ws sys) (c : WordsCall) where
   passed-accepted e = and_left (accepted plan) _ e
 
   call-held : Held (words_next ws c) (next sys (call_of c))
-  unfolding words_next next system_given if_done frame_answer if_passed
-  call-held = rw (held-read h) (split (passed tests) (λ e. rw (e, answered-done tests e) (done e)) (λ e. rw (e, ne_eqb (number_of (answered tests)) 0 (λ z. omega (arith, answered-refused tests e, z))) h))
+  unfolding words_next next system_given if_done frame_answer frame_system given unless if_passed
+  call-held = rw (held-read h) (split (passed tests) (λ e. rw (e, refused-none tests e) (done e)) (λ e. rw (e, (refused-some tests e).1) h))
     where
       done : passed tests ≡ true → Held (with_system plan.nodes (system_after plan sys c.sensors c.mask c.faults) ws) (system_after plan sys c.sensors c.mask c.faults)
       done e = frame-held plan (shape-of-accepted plan (passed-accepted e)) sys h.shaped c.sensors c.mask c.faults c.bytes h
 
 carried-answers : (cs : List WordsCall) {ws : List ℕ} {sys : System} → Held ws sys → codes ws cs ≡ codes_of (answers sys (calls cs))
-unfolding codes codes_of answers calls
+unfolding codes codes_of code_of answers calls
 carried-answers [] h = refl
 carried-answers (c ∷ cs) h = ap₂ (λ (x : ℕ) (l : List ℕ). x ∷ l) (rw (held-read h)) (carried-answers cs (call-held h c))
 

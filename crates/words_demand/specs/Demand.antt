@@ -1,14 +1,14 @@
 -- Demand 3 of the exported calls, beside the mission's words: a list of `ragbasalt_system_frame` calls on one system's words, the first on those that `ragbasalt_system_power_on` wrote, each other on
 -- those that the one before left. What a call answers and writes is what its contract cites (Calls.antt); who is good, the premise and the single controller are those of `Demand3`.
-use Rattle.std.specs.Prelude.{◌≡◌, true, false, List, [], ◌∷◌, ◌⊎◌, ℕ, ◌+◌, ◌^◌, ◌<◌, length, get_or, take}
+use Rattle.std.specs.Prelude.{◌≡◌, true, false, List, [], ◌∷◌, ◌⊎◌, ℕ, ◌+◌, ◌^◌, ◌<◌, length, get_or, take, Option}
 use Rattle.array.specs.Index.{from}
-use Rattle.answer.specs.declared.Answer.{Answer}
+use Rattle.answer.specs.declared.Refusal.{Refusal}
 use Rattle.plan.specs.Known.{period}
 use Rattle.plan.specs.Accepted.{accepted}
 use Rattle.plan_words.specs.Words.{plan_of_words}
 use Rattle.memory.specs.Node.{powered_on, setpoint}
 use Rattle.system.specs.Demand.{Call, single_places, single_finally, call_answers, masks, good_in, Premise}
-use Rattle.system_words.specs.Words.{code_of, memory_count, memory_words, node_at, handed_at, system_count}
+use Rattle.system_words.specs.Words.{code_with, code_of, memory_count, memory_words, node_at, handed_at, system_count}
 use Rattle.words_demand.specs.Calls.{words_started, framed_by, words_framed, place_framed}
 
 -- a call of `ragbasalt_system_frame`, all but the system's words
@@ -45,7 +45,7 @@ words_next ws c = words_framed c.plan ws c.sensors c.mask c.faults c.place
 
 unfoldable pub codes : List ℕ → List WordsCall → List ℕ
 codes ws [] = []
-codes ws (c ∷ cs) = code_of (framed_by c.plan ws c.sensors c.mask c.faults c.place).answer ∷ codes (words_next ws c) cs
+codes ws (c ∷ cs) = code_of (framed_by c.plan ws c.sensors c.mask c.faults c.place) ∷ codes (words_next ws c) cs
 
 unfoldable pub words_places : List ℕ → List WordsCall → List (List ℕ)
 words_places ws [] = []
@@ -55,9 +55,9 @@ unfoldable pub words_finally : List ℕ → List WordsCall → List ℕ
 words_finally ws [] = ws
 words_finally ws (c ∷ cs) = words_finally (words_next ws c) cs
 
-unfoldable pub codes_of : List Answer → List ℕ
+unfoldable pub codes_of : List (Option Refusal) → List ℕ
 codes_of [] = []
-codes_of (a ∷ later) = code_of a ∷ codes_of later
+codes_of (refused ∷ later) = code_with refused ∷ codes_of later
 
 -- ---- each call has the plan's words, or words that 7 refuses
 

@@ -5,32 +5,35 @@ use lib.ListN.{length}
 use borrow.Author.Rules.{rules}
 use borrow.Author.Tests.{eq-eqb, ne_eqb}
 use Rattle.plan.proofs.AcceptedLaws.{shape-of-accepted}
-use Rattle.plan_period.proofs.AnswerLaws.{accepted-of-period, refused-of-period}
+use Rattle.answer.proofs.TestLaws.{handed-on}
+use Rattle.plan_period.proofs.AnswerLaws.{accepted-of-period}
 use Rattle.card_step.specs.CardParts.{delivered}
 use Rattle.card_step.specs.Calls.{delivery, card_done}
 use Rattle.card.specs.Card.{most_bins}
 use Rattle.card.proofs.CallLaws.{plan-refused, second-refused, call-done, most-bins}
 use Rattle.card.proofs.deliver.Goals as goal
 
-pub returns-then-accepted_period-eq0 : goal.returns-then-accepted_period-eq0
-returns-then-accepted_period-eq0 c = plan-refused c.args.plan c.args.card (delivery c.args.number c.args.message.now) (refused-of-period _ c.accepted_period.ensures c.if-accepted_period-eq0.true)
+pub returns-in_err-recovery_period : goal.returns-in_err-recovery_period
+returns-in_err-recovery_period c =
+    let refused = plan-refused c.args.plan c.args.card.now (delivery c.args.number c.args.message.now) (sym c.recovery_period.ensures ∙ c.in_err-recovery_period.was) in
+    (handed-on c.from_residual.result c.from_residual.ensures.1 ∙ refused.0, refused.1)
 
 pub message_size-requires : goal.message_size-requires
-message_size-requires c = (shape-of-accepted _ (accepted-of-period _ c.accepted_period.ensures c.if-accepted_period-eq0.false)).cells-le
+message_size-requires c = (shape-of-accepted _ (accepted-of-period _ (sym c.recovery_period.ensures ∙ c.in_ok-recovery_period.was))).cells-le
 
 pub returns-then-message-message_size : goal.returns-then-message-message_size
 returns-then-message-message_size c =
-    second-refused c.args.plan c.args.card (delivery c.args.number c.args.message.now) (accepted-of-period _ c.accepted_period.ensures c.if-accepted_period-eq0.false)
+    second-refused c.args.plan c.args.card.now (delivery c.args.number c.args.message.now) (accepted-of-period _ (sym c.recovery_period.ensures ∙ c.in_ok-recovery_period.was))
     (ne_eqb _ _ (λ e. c.if-message-message_size.true (e ∙ sym c.message_size.ensures)))
 
 pub deliver-next-requires : goal.deliver-next-requires
 deliver-next-requires c =
-    let s = shape-of-accepted _ (accepted-of-period _ c.accepted_period.ensures c.if-accepted_period-eq0.false) in
-    let long : length c.args.card.bins ≡ most_bins = search rules in
+    let s = shape-of-accepted _ (accepted-of-period _ (sym c.recovery_period.ensures ∙ c.in_ok-recovery_period.was)) in
+    let long : length c.args.card.now.bins ≡ most_bins = search rules in
     (s.nodes-high, s.cells-le, omega (arith, long, most-bins s.nodes-high s.cells-le), c.if-message-message_size.false ∙ c.message_size.ensures)
 
 pub returns : goal.returns
 unfolding card_done
 returns c =
-    call-done c.args.plan c.args.card (delivery c.args.number c.args.message.now) (λ k. delivered c.args.plan c.args.number k c.args.message.now) (accepted-of-period _ c.accepted_period.ensures c.if-accepted_period-eq0.false)
-    (eq-eqb _ _ (c.if-message-message_size.false ∙ c.message_size.ensures)) refl c.state.ensures (c.deliver-next.ensures c.args.plan refl refl) c.outcome.ensures
+    call-done c.args.plan c.args.card.now (delivery c.args.number c.args.message.now) (λ k. delivered c.args.plan c.args.number k c.args.message.now) (accepted-of-period _ (sym c.recovery_period.ensures ∙ c.in_ok-recovery_period.was))
+    (eq-eqb _ _ (c.if-message-message_size.false ∙ c.message_size.ensures)) refl c.state-before.ensures (c.deliver-next.ensures c.args.plan refl refl) c.set_state.ensures

@@ -1,5 +1,5 @@
 -- `column::digits` meets its contract: the blanks of the column are those of its rest, up to where the rest starts with another byte or is empty.
-use Rattle.std.proofs.Common.{ℕ, ◌+◌, ◌-◌, sym, ap, ◌∙◌, inl, inr, arith, rules}
+use Rattle.std.proofs.Common.{ℕ, ◌+◌, sym, ap, ◌∙◌, inl, inr, arith, rules}
 use lib.Seq.{slice, slice_empty}
 use Rattle.word.specs.Word.{word_of, low_run}
 use Rattle.column.specs.Column.{drop_blanks}
@@ -56,29 +56,29 @@ loop-i-preserved c =
     let w = sym c.read_le4-w.ensures ∙ c.if-w-ne-BLANKS.false in
     (h.0, search rules, h.2 ∙ word-skip s (λ j. (c.type_inv.line j).fits) 4 c.loop-i.i c.if-to-len.end (search rules) h.0 w)
 
-pub loop-i-2-init : goal.loop-i-2-init
-loop-i-2-init c = (c.loop-i.invariant.0, c.loop-i.invariant.2)
+pub loop-j-init : goal.loop-j-init
+loop-j-init c = (c.loop-i.invariant.0, c.loop-i.invariant.2)
 
-pub returns-then-line-i-ne32 : goal.returns-then-line-i-ne32
-returns-then-line-i-ne32 c =
+pub returns-then-line-j-ne32 : goal.returns-then-line-j-ne32
+returns-then-line-j-ne32 c =
     let s = c.args.line.now in
-    let i = c.loop-i-2.i in
+    let i = c.loop-j.j in
     let e = c.if-to-len.end in
-    let h = c.loop-i-2.invariant in
+    let h = c.loop-j.invariant in
     slice-part s i e (search rules) h.0 ∙ sym (h.1 ∙ blanks-stop s i e (search rules) h.0 (search rules))
 
-pub loop-i-2-preserved : goal.loop-i-2-preserved
-loop-i-2-preserved c =
+pub loop-j-preserved : goal.loop-j-preserved
+loop-j-preserved c =
     let s = c.args.line.now in
-    let h = c.loop-i-2.invariant in
-    (h.0, h.1 ∙ blanks-skip s c.loop-i-2.i c.if-to-len.end (search rules) h.0 (search rules))
+    let h = c.loop-j.invariant in
+    (h.0, h.1 ∙ blanks-skip s c.loop-j.j c.if-to-len.end (search rules) h.0 (search rules))
 
 pub returns : goal.returns
 unfolding drop_blanks
 returns c =
     let s = c.args.line.now in
     let e = c.if-to-len.end in
-    let h = c.loop-i-2.invariant in
+    let h = c.loop-j.invariant in
     slice-part s e e (search rules) h.0
     ∙ slice_empty e s
-    ∙ sym (h.1 ∙ ap drop_blanks (slice-behind s c.loop-i-2.i e (search rules)))
+    ∙ sym (h.1 ∙ ap drop_blanks (slice-behind s c.loop-j.j e (search rules)))

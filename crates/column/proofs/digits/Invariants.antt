@@ -9,8 +9,5 @@ invariant-loop-i l = (l.end ≤ length l.line) × (l.i ≤ l.end) × (drop_blank
 abbrev pub decreases-loop-i : goal.decreases-loop-i
 decreases-loop-i l = l.end - l.i
 
-abbrev pub invariant-loop-i-2 : goal.invariant-loop-i-2
-invariant-loop-i-2 l = (l.end ≤ length l.line) × (drop_blanks (slice l.from l.to l.line) ≡ drop_blanks (slice l.i l.end l.line))
-
-abbrev pub decreases-loop-i-2 : goal.decreases-loop-i-2
-decreases-loop-i-2 l = l.end - l.i
+abbrev pub invariant-loop-j : goal.invariant-loop-j
+invariant-loop-j l = (l.end ≤ length l.line) × (drop_blanks (slice l.from l.to l.line) ≡ drop_blanks (slice l.j l.end l.line))

@@ -49,9 +49,6 @@ write_history-requires c =
     let now = c.loop-k in
     part_length now.out (now.k * history_line_size) (now.k * history_line_size + history_line_size - now.k * history_line_size) history_line_size (omega arith) (omega (arith, c.requires.2, c.loop-k-test.true, now.invariant.2))
 
-pub overflow_add-k : goal.overflow_add-k
-overflow_add-k c = omega (arith, c.requires.0, c.loop-k-test.true)
-
 pub loop-k-smaller : goal.loop-k-smaller
 loop-k-smaller c = omega (arith, c.loop-k-test.true)
 

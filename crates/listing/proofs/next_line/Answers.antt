@@ -3,7 +3,6 @@ use mathlib.Core.Path.{◌≡◌, ap, ◌∙◌}
 use Prim.Native.Nat.{ℕ, ◌+◌, ◌-◌, min}
 use native.Mathlib.Omega.{arith}
 use lib.ListN.{length, take}
-use borrow.Author.Tests.{not-true, not-false}
 use Rattle.plan.proofs.AcceptedLaws.{shape-of-accepted}
 use Rattle.run_line.specs.Line.{run_line_size}
 use Rattle.lines.proofs.StepLaws.{first-line}
@@ -13,32 +12,32 @@ use Rattle.listing.proofs.next_line.Goals as goal
 pub line_size-size-requires : goal.line_size-size-requires
 line_size-size-requires c = (shape-of-accepted _ c.requires.0).sensors-le
 
-pub line-s-requires : goal.line-s-requires
-line-s-requires c = (c.requires.0, c.requires.1, c.requires.2)
+pub line-requires : goal.line-requires
+line-requires c = (c.requires.0, c.requires.1, c.requires.2)
 
-pub returns-then-not-s : goal.returns-then-not-s
-returns-then-not-s c =
+pub returns-in_default : goal.returns-in_default
+returns-in_default c =
     let a = c.args in
-    let r = a.run in
+    let r = a.run.now in
     let size = c.line_size-size in
     let q = c.requires in
     let same : take (c.part_end-end.result - 0) a.rest.now ≡ take (run_line_size r.plan.sensors) a.rest.now = first-line a.rest.now (run_line_size r.plan.sensors) (c.part_end-end.ensures ∙ ap (λ (n : ℕ). min (0 + n) (length a.rest.now)) size.ensures) in
-    line_refused r a.rest.now a.out.now _ _ c.line-s.result q.2 same c.line-s.ensures.0 c.line-s.ensures.1 c.nothing.result (not-true _ c.if-not-s.true) (c.nothing.ensures.0 ∙ c.refused_line.ensures, c.nothing.ensures.1, c.nothing.ensures.2)
+    line_refused r a.rest.now a.out.now _ _ c.line.result q.2 same c.line.ensures.0 c.line.ensures.1 c.in_default.is c.refused_line.ensures
 
-pub overflow_add-next : goal.overflow_add-next
-overflow_add-next c =
+pub overflow_add-run : goal.overflow_add-run
+overflow_add-run c =
     let a = c.args in
-    let r = a.run in
+    let r = a.run.now in
     let size = c.line_size-size in
     let q = c.requires in
     let same : take (c.part_end-end.result - 0) a.rest.now ≡ take (run_line_size r.plan.sensors) a.rest.now = first-line a.rest.now (run_line_size r.plan.sensors) (c.part_end-end.ensures ∙ ap (λ (n : ℕ). min (0 + n) (length a.rest.now)) size.ensures) in
-    omega (arith, line-in-range r a.rest.now a.out.now _ _ c.line-s.result q.2 same c.line-s.ensures.0 c.line-s.ensures.1 (not-false _ c.if-not-s.false))
+    omega (arith, line-in-range r a.rest.now a.out.now _ _ c.line.result q.2 same c.line.ensures.0 c.line.ensures.1 c.in-Some.is)
 
 pub returns : goal.returns
 returns c =
     let a = c.args in
-    let r = a.run in
+    let r = a.run.now in
     let size = c.line_size-size in
     let q = c.requires in
     let same : take (c.part_end-end.result - 0) a.rest.now ≡ take (run_line_size r.plan.sensors) a.rest.now = first-line a.rest.now (run_line_size r.plan.sensors) (c.part_end-end.ensures ∙ ap (λ (n : ℕ). min (0 + n) (length a.rest.now)) size.ensures) in
-    line-done r a.rest.now a.out.now _ _ c.line-s.result q.2 same c.line-s.ensures.0 c.line-s.ensures.1 a.period (not-false _ c.if-not-s.false) q.1
+    line-done r a.rest.now a.out.now _ _ c.line.result q.2 same c.line.ensures.0 c.line.ensures.1 a.period c.in-Some.is q.1

@@ -1,7 +1,7 @@
 -- `listing::refused_line` meets its contract.
 use mathlib.Core.Path.{sym, ap}
 use Prim.Native.Nat.{ℕ, ◌+◌}
-use Rattle.answer.specs.declared.Answer.TheVariants.{RunLine}
+use Rattle.answer.specs.declared.Refusal.TheVariants.{RunLine}
 use Rattle.listing.proofs.CallLaws.{min-below, min-above}
 use Rattle.listing.proofs.refused_line.Goals as goal
 

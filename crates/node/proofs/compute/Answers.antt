@@ -1,20 +1,22 @@
--- `node::compute` meets its contract: an answer for each way out.
-use Rattle.plan_period.proofs.AnswerLaws.{accepted-of-period, refused-of-period}
-use Rattle.node.specs.Answers.{compute_answer}
-use Rattle.node.proofs.CallLaws.{outcome, plan-refused, length-refused, call-done}
+-- `node::compute` meets its contract, by each way out.
+use mathlib.Core.Path.{refl, sym, ◌∙◌}
+use Rattle.answer.proofs.TestLaws.{handed-on}
+use Rattle.plan_period.proofs.AnswerLaws.{accepted-of-period}
+use Rattle.node.specs.Answers.{length_checked, compute_memory}
+use Rattle.node.proofs.CallLaws.{plan-refused, length-refused, call-done}
 use Rattle.node.proofs.compute.Goals as goal
 
-pub returns-then-accepted_period-eq0 : goal.returns-then-accepted_period-eq0
-unfolding compute_answer
-returns-then-accepted_period-eq0 c = outcome (plan-refused _ _ _ _ _ (refused-of-period _ c.accepted_period.ensures c.if-accepted_period-eq0.true))
+pub returns-in_err-recovery_period : goal.returns-in_err-recovery_period
+unfolding length_checked compute_memory
+returns-in_err-recovery_period c = plan-refused _ _ _ _ _ _ (sym c.recovery_period.ensures ∙ c.in_err-recovery_period.was) (handed-on c.from_residual.result c.from_residual.ensures.1)
 
 pub returns-then-sensors-wanted : goal.returns-then-sensors-wanted
-unfolding compute_answer
-returns-then-sensors-wanted c = outcome (length-refused _ _ _ _ _ (accepted-of-period _ c.accepted_period.ensures c.if-accepted_period-eq0.false) c.if-sensors-wanted.true)
+unfolding length_checked compute_memory
+returns-then-sensors-wanted c = length-refused _ _ _ _ _ _ (accepted-of-period _ (sym c.recovery_period.ensures ∙ c.in_ok-recovery_period.was)) c.if-sensors-wanted.true
 
-pub compute-next-requires : goal.compute-next-requires
-compute-next-requires c = (accepted-of-period _ c.accepted_period.ensures c.if-accepted_period-eq0.false, c.if-sensors-wanted.false)
+pub compute-requires : goal.compute-requires
+compute-requires c = (accepted-of-period _ (sym c.recovery_period.ensures ∙ c.in_ok-recovery_period.was), c.if-sensors-wanted.false)
 
 pub returns : goal.returns
-unfolding compute_answer
-returns c = outcome (call-done _ _ _ _ _ (accepted-of-period _ c.accepted_period.ensures c.if-accepted_period-eq0.false) c.if-sensors-wanted.false c.compute-next.ensures)
+unfolding length_checked compute_memory
+returns c = call-done _ _ _ _ _ _ (accepted-of-period _ (sym c.recovery_period.ensures ∙ c.in_ok-recovery_period.was)) c.if-sensors-wanted.false refl c.compute.ensures

@@ -9,6 +9,3 @@ use Rattle.plan_form.proofs.actuators_ok.Given as goal
 abbrev pub invariant-loop-i : goal.invariant-loop-i
 invariant-loop-i l = (l.i ≤ 8)
     × (all_below (λ j. cond (ltb j l.actuators) (ltb (get_or l.table j 0) l.cells) (eqb (get_or l.table j 0) 0)) l.i ≡ true)
-
-abbrev pub decreases-loop-i : goal.decreases-loop-i
-decreases-loop-i l = 8 - l.i

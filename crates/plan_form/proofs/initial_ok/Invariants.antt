@@ -8,6 +8,3 @@ use Rattle.plan_form.proofs.initial_ok.Given as goal
 
 abbrev pub invariant-loop-c : goal.invariant-loop-c
 invariant-loop-c l = (l.c ≤ 32) × (all_below (λ j. ltb j l.cells || eqb (get_or l.initial' j 0) 0) l.c ≡ true)
-
-abbrev pub decreases-loop-c : goal.decreases-loop-c
-decreases-loop-c l = 32 - l.c

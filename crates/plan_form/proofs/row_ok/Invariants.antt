@@ -9,6 +9,3 @@ use Rattle.plan_form.proofs.row_ok.Given as goal
 
 abbrev pub invariant-loop-c : goal.invariant-loop-c
 invariant-loop-c l = (l.from ≤ l.c) × (all_below (λ j. not (get_or l.voted (vote_place l.frame j) false) || ltb j l.from) l.c ≡ true)
-
-abbrev pub decreases-loop-c : goal.decreases-loop-c
-decreases-loop-c l = 32 - l.c

@@ -8,6 +8,3 @@ use Rattle.plan_form.proofs.tasks_ok.Given as goal
 
 abbrev pub invariant-loop-k : goal.invariant-loop-k
 invariant-loop-k l = (l.k ≤ 64) × (all_below (task_entry l.p) l.k ≡ true) × Before l.p l.k l.last
-
-abbrev pub decreases-loop-k : goal.decreases-loop-k
-decreases-loop-k l = 64 - l.k

@@ -10,6 +10,3 @@ use Rattle.plan_form.proofs.votes_ok.Given as goal
 abbrev pub invariant-loop-g : goal.invariant-loop-g
 invariant-loop-g l = (l.g ≤ 16)
     × (all_below (λ f. all_below (λ j. not (get_or l.voted (vote_place f j) false) || (ltb f l.frames && ltb j l.cells)) 32) l.g ≡ true)
-
-abbrev pub decreases-loop-g : goal.decreases-loop-g
-decreases-loop-g l = 16 - l.g

@@ -1,29 +1,33 @@
--- `plan_line::in_order` meets its contract: one return for each kind of line.
-use mathlib.Core.Path.{sym, ◌∙◌}
-use borrow.Author.Tests.{eq-eqb, ne_eqb, lt-leb, le-leb}
+-- `plan_line::in_order` meets its contract: one arm for each kind of line.
+use Rattle.std.proofs.Common.{sym}
+use mathlib.Core.Bool.{and-false}
+use borrow.Author.Tests.{ne_eqb}
+use Rattle.plan_line.specs.declared.Kind.TheVariants.{Cell, Vote, Actuator}
+use Rattle.plan_line.proofs.KindLaws.{no-task, of-task}
+use Rattle.plan_grammar.specs.Line.{is_task}
 use Rattle.plan_grammar.specs.Refused.{in_order}
 use Rattle.plan_line.proofs.in_order.Goals as goal
 
-pub returns-then-kind-eq-CELL : goal.returns-then-kind-eq-CELL
-unfolding in_order
-returns-then-kind-eq-CELL c = rw (eq-eqb _ _ c.if-kind-eq-CELL.true)
+pub returns-in_default : goal.returns-in_default
+unfolding in_order is_task
+returns-in_default c = rw (ne_eqb _ _ (c.in_default.ensures Cell), no-task _ c.in_default.ensures, ne_eqb _ _ (c.in_default.ensures Vote), ne_eqb _ _ (c.in_default.ensures Actuator)) (sym (and-false _))
 
-pub returns-then-j-cells : goal.returns-then-j-cells
-unfolding in_order
-returns-then-j-cells c = rw (ne_eqb _ _ c.if-kind-eq-CELL.false, lt-leb _ _ c.if-j-cells.true)
+pub returns-in-Cell : goal.returns-in-Cell
+unfolding in_order is_task
+returns-in-Cell c = rw (c.in-Some.ensures, c.in-Cell.is)
 
-pub returns-then-is_task : goal.returns-then-is_task
-unfolding in_order
-returns-then-is_task c = rw (ne_eqb _ _ c.if-kind-eq-CELL.false, le-leb _ _ c.if-j-cells.false, sym c.is_task.ensures ∙ c.if-is_task.true) c.task_in_order.ensures
+pub returns-in-Take : goal.returns-in-Take
+unfolding in_order is_task
+returns-in-Take c = let t = of-task _ c.in-Take.is in rw (c.task_in_order.ensures, c.in-Some.ensures, t.0, t.1)
 
-pub returns-then-kind-eq-VOTE : goal.returns-then-kind-eq-VOTE
-unfolding in_order
-returns-then-kind-eq-VOTE c = rw (ne_eqb _ _ c.if-kind-eq-CELL.false, le-leb _ _ c.if-j-cells.false, sym c.is_task.ensures ∙ c.if-is_task.false, eq-eqb _ _ c.if-kind-eq-VOTE.true) c.vote_in_order.ensures
+pub returns-in-Vote : goal.returns-in-Vote
+unfolding in_order is_task
+returns-in-Vote c = rw (c.vote_in_order.ensures, c.in-Some.ensures, c.in-Vote.is)
 
-pub returns-then-kind-eq-ACTUATOR : goal.returns-then-kind-eq-ACTUATOR
-unfolding in_order
-returns-then-kind-eq-ACTUATOR c = rw (ne_eqb _ _ c.if-kind-eq-CELL.false, le-leb _ _ c.if-j-cells.false, sym c.is_task.ensures ∙ c.if-is_task.false, ne_eqb _ _ c.if-kind-eq-VOTE.false, eq-eqb _ _ c.if-kind-eq-ACTUATOR.true) c.actuator_in_order.ensures
+pub returns-in-Actuator : goal.returns-in-Actuator
+unfolding in_order is_task
+returns-in-Actuator c = rw (c.actuator_in_order.ensures, c.in-Some.ensures, c.in-Actuator.is)
 
-pub returns : goal.returns
-unfolding in_order
-returns c = rw (ne_eqb _ _ c.if-kind-eq-CELL.false, le-leb _ _ c.if-j-cells.false, sym c.is_task.ensures ∙ c.if-is_task.false, ne_eqb _ _ c.if-kind-eq-VOTE.false, ne_eqb _ _ c.if-kind-eq-ACTUATOR.false)
+pub returns-in-Header : goal.returns-in-Header
+unfolding in_order is_task
+returns-in-Header c = rw (c.in-Some.ensures, c.in-Header.is) (sym (and-false _))

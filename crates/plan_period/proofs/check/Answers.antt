@@ -1,10 +1,13 @@
--- `plan_period::check` meets its contract: a record is accepted where its period is not 0.
+-- `plan_period::check` meets its contract: a record is checked where its period is found.
 use mathlib.Core.Path.{sym, ◌∙◌}
-use Rattle.plan_period.proofs.AnswerLaws.{checked_refused, checked-done}
+use Rattle.answer.proofs.TestLaws.{handed-on}
+use Rattle.plan_period.proofs.AnswerLaws.{accepted-of-period, checked-done, checked-refused}
 use Rattle.plan_period.proofs.check.Goals as goal
 
-pub returns-then-accepted_period-eq0 : goal.returns-then-accepted_period-eq0
-returns-then-accepted_period-eq0 c = checked_refused c.args.plan (sym c.accepted_period.ensures ∙ c.if-accepted_period-eq0.true)
+pub returns-in_err-recovery_period : goal.returns-in_err-recovery_period
+returns-in_err-recovery_period c =
+    handed-on c.from_residual.result c.from_residual.ensures.1
+    ∙ sym (checked-refused c.args.plan (sym c.recovery_period.ensures ∙ c.in_err-recovery_period.was))
 
 pub returns : goal.returns
-returns c = checked-done c.args.plan (λ z. c.if-accepted_period-eq0.false (c.accepted_period.ensures ∙ z))
+returns c = sym (checked-done c.args.plan (accepted-of-period c.args.plan (sym c.recovery_period.ensures ∙ c.in_ok-recovery_period.was)))

@@ -1,20 +1,27 @@
--- `ragbasalt_listing_start` meets its contract: a result for each way out.
-use Rattle.system_words.proofs.GivenLaws.{done-given, done-kept}
-use Rattle.ragbasalt_listing.proofs.RunLaws.{start-accepted}
+-- `ragbasalt_listing_start` meets its contract: what the call that it wraps gives, of what the words are.
+use mathlib.Core.Path.{sym, ap, ◌∙◌}
+use native.Mathlib.Omega.{arith}
+use Rattle.plan.specs.declared.Plan.{Plan}
+use Rattle.plan.specs.Limits.{most_nodes}
+use Rattle.lines.specs.declared.Run.{Run}
+use Rattle.plan_words.specs.Words.{plan_words}
+use Rattle.system_words.proofs.GivenLaws.{code-done, code-refused, done-given, done-kept}
+use Rattle.ragbasalt_listing.specs.Words.{with_run}
+use Rattle.ragbasalt_listing.proofs.RunLaws.{run-given, run-kept, started-is, started-plan, started-accepted}
 use Rattle.ragbasalt_listing.proofs.ragbasalt_listing_start.Goals as goal
 
-pub returns-then-number-ne0 : goal.returns-then-number-ne0
-returns-then-number-ne0 c =
-    let a = c.start-started.ensures in
-    (rw a at c.code.ensures, done-kept _ _ _ (rw a at c.number.ensures) c.if-number-ne0.true, rw a at c.give_run.ensures)
+pub words-words-requires : goal.words-words-requires
+words-words-requires c = started-accepted _ (sym c.start.ensures ∙ c.in-Ok.is)
 
-pub returns : goal.returns
-returns c =
-    let a = c.start-started.ensures in (
-      rw a at c.code-2.ensures,
-      done-given _ _ _ (rw a at c.number.ensures) c.if-number-ne0.false (rw a at c.words-words.ensures),
-      rw a at c.give_run.ensures,
+pub returns-in-Ok : goal.returns-in-Ok
+returns-in-Ok c =
+    let e = sym c.start.ensures ∙ c.in-Ok.is in (
+      code-done _ e,
+      c.words-words.ensures ∙ ap (λ (p : Plan). plan_words p) (started-plan _ e) ∙ done-given _ e _ _,
+      c.put_run.ensures ∙ ap (λ (r : Run). with_run most_nodes r c.args.run.now) (started-is _ e) ∙ run-given _ e _ _ _,
     )
 
-pub words-words-requires : goal.words-words-requires
-words-words-requires c = start-accepted _ c.start-started.ensures c.number.ensures c.if-number-ne0.false
+pub returns-in-Err : goal.returns-in-Err
+returns-in-Err c =
+    let e = sym c.start.ensures ∙ c.in-Err.is in
+    (c.code.ensures ∙ code-refused _ e, done-kept _ e _ _, run-kept _ e _ _ _)

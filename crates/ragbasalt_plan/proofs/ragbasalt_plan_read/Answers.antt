@@ -1,17 +1,21 @@
 -- `ragbasalt_plan_read` meets its contract: a result for each way out.
-use Rattle.system_words.proofs.GivenLaws.{done-given, done-kept}
+use mathlib.Core.Path.{sym, ap, ◌∙◌}
+use Rattle.plan.specs.declared.Plan.{Plan}
+use Rattle.plan_text.proofs.GivenLaws.{plan-given}
+use Rattle.plan_words.specs.Words.{plan_words}
+use Rattle.system_words.proofs.GivenLaws.{code-done, code-refused, done-given, done-kept}
 use Rattle.ragbasalt_plan.proofs.ReadLaws.{read-accepted}
 use Rattle.ragbasalt_plan.proofs.ragbasalt_plan_read.Goals as goal
 
-pub returns-then-number-ne0 : goal.returns-then-number-ne0
-returns-then-number-ne0 c =
-    let a = c.read-read.ensures in
-    (rw a at c.code.ensures, done-kept _ _ _ (rw a at c.number.ensures) c.if-number-ne0.true)
-
-pub returns : goal.returns
-returns c =
-    let a = c.read-read.ensures in
-    (rw a at c.code-2.ensures, done-given _ _ _ (rw a at c.number.ensures) c.if-number-ne0.false (rw a at c.words-words.ensures))
-
 pub words-words-requires : goal.words-words-requires
-words-words-requires c = read-accepted _ c.read-read.ensures c.number.ensures c.if-number-ne0.false
+words-words-requires c = read-accepted _ (sym c.read.ensures ∙ c.in-Ok.is)
+
+pub returns-in-Ok : goal.returns-in-Ok
+returns-in-Ok c =
+    let e = sym c.read.ensures ∙ c.in-Ok.is in
+    (code-done _ e, c.words-words.ensures ∙ ap (λ (p : Plan). plan_words p) (plan-given _ e).1 ∙ done-given _ e _ _)
+
+pub returns-in-Err : goal.returns-in-Err
+returns-in-Err c =
+    let e = sym c.read.ensures ∙ c.in-Err.is in
+    (c.code.ensures ∙ code-refused _ e, done-kept _ e _ _)

@@ -1,13 +1,12 @@
 -- `run::block` meets its contract.
+use Rattle.std.specs.Prelude.{Option, is_some, is_none}
 use mathlib.Core.Path.{◌≡◌, ap, ◌∙◌, subst}
-use mathlib.Core.Bool.{Bool, ◌&&◌}
+use mathlib.Core.Bool.{Bool, true, false, not, ◌&&◌}
 use mathlib.Core.List.{List}
 use Prim.Native.Nat.{ℕ, ◌-◌, ◌*◌, ◌≤◌}
 use native.Mathlib.Omega.{arith}
-use lib.Dec.{eqb}
 use lib.ListN.{length, take, length-take}
-use Rattle.answer.specs.declared.Answer.{Answer}
-use Rattle.answer.specs.Refusal.{number_of}
+use Rattle.answer.specs.declared.Refusal.{Refusal}
 use Rattle.run_line.specs.Line.{run_line_size}
 use Rattle.lines.specs.declared.Run.{Run}
 use Rattle.lines.specs.Code.{block_lines, lines_answer}
@@ -21,10 +20,14 @@ part-few l k n m e f = omega (arith, length-take k l)
 read-laid : (r : Run) (input out : List ℕ) (n count : ℕ) (left : Run) → LaidBlock r (take (n - 0) input) out count left → LaidBlock r (take n input) out count left
 read-laid r input out n count left h = let z : n - 0 ≡ n = omega arith in subst (λ (k : ℕ). LaidBlock r (take k input) out count left) z h
 
-read_more : (r : Run) (input : List ℕ) (n : ℕ) (x : Answer) {a : ℕ} (b : Bool) → a ≡ number_of x → x ≡ (lines_answer r (take (n - 0) input)).answer → (eqb a 0 && b) ≡ (eqb (number_of (lines_answer r (take n input)).answer) 0 && b)
-read_more r input n x {a} b e f =
+not-back : (a : Bool) {s : Bool} → s ≡ not a → a ≡ not s
+not-back true e = rw e
+not-back false e = rw e
+
+read_more : (r : Run) (input : List ℕ) (n : ℕ) {o : Option Refusal} (a b : Bool) → is_some o ≡ not a → o ≡ (lines_answer r (take (n - 0) input)).refused → (a && b) ≡ (is_none (lines_answer r (take n input)).refused && b)
+read_more r input n a b e f =
     let z : n - 0 ≡ n = omega arith in
-    ap (λ (k : ℕ). eqb k 0 && b) (e ∙ ap number_of f ∙ ap (λ (k : ℕ). number_of (lines_answer r (take k input)).answer) z)
+    ap (λ (k : Bool). k && b) (not-back a e ∙ ap is_none f ∙ ap (λ (k : ℕ). is_none (lines_answer r (take k input)).refused) z)
 
 pub listed-r-requires : goal.listed-r-requires
 listed-r-requires g c =
@@ -37,7 +40,7 @@ returns g c = (
   c.read_full-got.auto.buffer,
   c.read_full-got.ensures.count,
   read-laid c.args.run c.read_full-got.new.buffer _ c.read_full-got.result _ _ c.listed-r.ensures.1,
-  read_more c.args.run c.read_full-got.new.buffer c.read_full-got.result c.listed-r.result.answer _ c.number.ensures c.listed-r.ensures.0,
+  read_more c.args.run c.read_full-got.new.buffer c.read_full-got.result _ _ c.is_none.ensures c.listed-r.ensures.0,
   c.listed-r.ensures.2,
   c.listed-r.auto.faults,
   c.listed-r.ensures.3,

@@ -1,4 +1,5 @@
 -- `run::follow` meets its contract: each block begins with the run that the one before left. It ends: each block that is read whole brings the run nearer to its last line.
+use Rattle.std.specs.Prelude.{Option, None, Some, is_none}
 use mathlib.Core.Path.{◌≡◌, refl, sym, ap, ◌∙◌, subst}
 use mathlib.Core.Bool.{Bool, true, false, ◌&&◌}
 use mathlib.Core.List.{List, [], ◌++◌}
@@ -7,9 +8,9 @@ use lib.Dec.{eqb}
 use native.Mathlib.Omega.{arith}
 use lib.ListN.{length, take, drop, length-replicate}
 use lib.Seq.{length-take-le, length_front, take_at}
-use borrow.Author.Tests.{eq-eqb, eqb-true, eqb-false}
-use Rattle.array.proofs.TestLaws.{and_left, and_right}
-use Rattle.answer.specs.Refusal.{number_of}
+use borrow.Author.Tests.{eqb-true, eqb-false}
+use Rattle.array.proofs.TestLaws.{clash, and_left, and_right}
+use Rattle.answer.specs.declared.Refusal.{Refusal}
 use Rattle.plan.specs.declared.Plan.{Plan}
 use Rattle.plan.specs.declared.Sizes.{Sizes}
 use Rattle.plan.specs.Known.{period}
@@ -75,6 +76,10 @@ block-read-requires g c =
     let f : length (take (c.size-bytes.result - 0) l.faults) ≡ faults_size (sizes_of l.run.plan) = front_length l.faults refl b.1 ∙ b.0 ∙ ap (λ (q : Plan). faults_size (sizes_of q)) (sym l.invariant.3) in
     (l.invariant.0, l.invariant.1, l.invariant.2, omega (arith, n, size.ensures, same), l.invariant.6, f, l.invariant.8, omega (arith, m, p.actuators-le))
 
+none-is : (o : Option Refusal) → is_none o ≡ true → o ≡ None
+none-is None e = refl
+none-is (Some q) e = absurd (clash e refl)
+
 -- the run that a block leaves
 module _ (r : Run) (input out : List ℕ) (got count : ℕ) (left : Run) (h : LaidBlock r (take got input) out count left) where
   left-plan : left.plan ≡ r.plan
@@ -88,25 +93,25 @@ module _ (r : Run) (input out : List ℕ) (got count : ℕ) (left : Run) (h : La
   left-in-time : r.frame ≤ most_run_lines → left.frame ≤ most_run_lines
   left-in-time f = rw h.run_is (lines-in-time r (take got input) f)
 
-  left-done : {more : Bool} → more ≡ (eqb (number_of (lines_answer r (take got input)).answer) 0 && eqb got (length input)) → more ≡ true → number_of (lines_answer r (take got input)).answer ≡ 0
-  left-done m t = eqb-true _ 0 (and_left _ (eqb got (length input)) (sym m ∙ t))
+  left-done : {more : Bool} → more ≡ (is_none (lines_answer r (take got input)).refused && eqb got (length input)) → more ≡ true → (lines_answer r (take got input)).refused ≡ None
+  left-done m t = none-is _ (and_left _ (eqb got (length input)) (sym m ∙ t))
 
   left-short :
-      {more : Bool} → more ≡ (eqb (number_of (lines_answer r (take got input)).answer) 0 && eqb got (length input)) → more ≡ false → got ≤ length input →
-      number_of (lines_answer r (take got input)).answer ≡ 0 → length (take got input) < length input
+      {more : Bool} → more ≡ (is_none (lines_answer r (take got input)).refused && eqb got (length input)) → more ≡ false → got ≤ length input →
+      (lines_answer r (take got input)).refused ≡ None → length (take got input) < length input
   left-short m t fits e =
-      let b : (eqb (number_of (lines_answer r (take got input)).answer) 0 && eqb got (length input)) ≡ false = sym m ∙ t in
-      let short : eqb got (length input) ≡ false = rw (eq-eqb _ 0 e) at b in
+      let b : (is_none (lines_answer r (take got input)).refused && eqb got (length input)) ≡ false = sym m ∙ t in
+      let short : eqb got (length input) ≡ false = rw e at b in
       omega (arith, length-take-le got input fits, eqb-false got (length input) short, fits)
 
-  left-reached : {start : Run} → number_of (lines_answer r (take got input)).answer ≡ 0 → Reached start r → Reached start left
+  left-reached : {start : Run} → (lines_answer r (take got input)).refused ≡ None → Reached start r → Reached start left
   left-reached {start} e before =
       subst (Reached start) (sym h.run_is) (record { read = before.read ++ take got input; printed = before.printed ++ block_listing r (take got input); passed = further before.passed (take got input) e })
 
-  left-further : {more : Bool} → more ≡ (eqb (number_of (lines_answer r (take got input)).answer) 0 && eqb got (length input)) → more ≡ true → 0 < length input → r.frame < left.frame
+  left-further : {more : Bool} → more ≡ (is_none (lines_answer r (take got input)).refused && eqb got (length input)) → more ≡ true → 0 < length input → r.frame < left.frame
   left-further m t f =
-      let b : (eqb (number_of (lines_answer r (take got input)).answer) 0 && eqb got (length input)) ≡ true = sym m ∙ t in
-      let whole : got ≡ length input = eqb-true got (length input) (and_right (eqb (number_of (lines_answer r (take got input)).answer) 0) (eqb got (length input)) b) in
+      let b : (is_none (lines_answer r (take got input)).refused && eqb got (length input)) ≡ true = sym m ∙ t in
+      let whole : got ≡ length input = eqb-true got (length input) (and_right (is_none (lines_answer r (take got input)).refused) (eqb got (length input)) b) in
       let some : 0 < length (take got input) = omega (arith, length-take-le got input (omega arith)) in
       rw h.run_is (lines-further r (take got input) (left-done m t) some)
 

@@ -4,4 +4,4 @@ use Rattle.listing_start.proofs.CallLaws.{start-accepted}
 use Rattle.run.proofs.main.Goals as goal
 
 pub follow-requires : goal.follow-requires
-follow-requires c = start-accepted _ c.start-start.result c.start-start.ensures (sym c.number.ensures ∙ c.if-number-ne0.false)
+follow-requires c = start-accepted _ (sym c.start.ensures ∙ c.in-Ok.is)

@@ -1,9 +1,7 @@
-use mathlib.Core.Path.{refl}
-use Rattle.array.proofs.WordLaws.{be-first, be-next}
+-- `array::step::read_be2` meets its contract.
+use mathlib.Core.Path.{◌∙◌}
+use Rattle.array.proofs.WordLaws.{be-two}
 use Rattle.array.proofs.step.read_be2.Goals as goal
 
 pub returns : goal.returns
-returns c =
-    let a = c.args in
-    let s = a.s.now in
-    be-next s a.at 1 c.pair.ensures (be-first s a.at refl)
+returns c = c.from_be_bytes.ensures ∙ be-two c.args.s.now c.args.at

@@ -1,12 +1,9 @@
-use native.Mathlib.Omega.{arith}
-use lib.ListN.{length-set}
-use Rattle.array.specs.Word.{bytes}
-use Rattle.array.proofs.WordLaws.{stored2}
+-- `array::step::write_be2` meets its contract.
+use mathlib.Core.Path.{◌∙◌}
+use Rattle.array.proofs.WordLaws.{bytes-two, part-stored}
 use Rattle.array.proofs.step.write_be2.Goals as goal
 
-pub bounds-s-at-2 : goal.bounds-s-at-2
-bounds-s-at-2 c = simp length-set (omega arith)
-
 pub returns : goal.returns
-unfolding bytes
-returns c = stored2 _ _ _ _ c.requires
+returns c =
+    part-stored c.args.s.now _ _ c.args.at 2
+    (c.copy_from_slice.ensures.after ∙ c.to_be_bytes.ensures ∙ bytes-two c.args.x)

@@ -1,33 +1,9 @@
-use native.Mathlib.Omega.{arith}
-use lib.ListN.{length-set}
-use Rattle.array.specs.Word.{bytes}
-use Rattle.array.proofs.WordLaws.{stored8}
+-- `array::step::write_be8` meets its contract.
+use mathlib.Core.Path.{◌∙◌}
+use Rattle.array.proofs.WordLaws.{bytes-eight, part-stored}
 use Rattle.array.proofs.step.write_be8.Goals as goal
 
-pub bounds-s-at-2 : goal.bounds-s-at-2
-bounds-s-at-2 c = simp length-set (omega arith)
-
-pub bounds-s-at-3 : goal.bounds-s-at-3
-bounds-s-at-3 c = simp length-set (omega arith)
-
-pub bounds-s-at-4 : goal.bounds-s-at-4
-bounds-s-at-4 c = simp length-set (omega arith)
-
-pub bounds-s-at-5 : goal.bounds-s-at-5
-bounds-s-at-5 c = simp length-set (omega arith)
-
-pub bounds-s-at-6 : goal.bounds-s-at-6
-bounds-s-at-6 c = simp length-set (omega arith)
-
-pub bounds-s-at-7 : goal.bounds-s-at-7
-bounds-s-at-7 c = simp length-set (omega arith)
-
-pub bounds-s-at-8 : goal.bounds-s-at-8
-bounds-s-at-8 c = simp length-set (omega arith)
-
-pub shape_of-s : goal.shape_of-s
-shape_of-s c = simp length-set
-
 pub returns : goal.returns
-unfolding bytes
-returns c = stored8 _ _ _ _ _ _ _ _ _ _ c.requires
+returns c =
+    part-stored c.args.s.now _ _ c.args.at 8
+    (c.copy_from_slice.ensures.after ∙ c.to_be_bytes.ensures ∙ bytes-eight c.args.x)

@@ -8,4 +8,4 @@ returns-in_default c = rw c.in_default.is
 
 pub returns : goal.returns
 unfolding backing
-returns c = rw c.in-Value.is c.holders.ensures
+returns c = rw c.in-Some.is c.holders.ensures

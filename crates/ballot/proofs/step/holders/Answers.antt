@@ -1,6 +1,6 @@
 -- `ballot::step::holders` meets its contract: the loop has counted among the first j values.
 use mathlib.Core.Path.{◌≡◌, ap, ◌∙◌}
-use Prim.Native.Nat.{ℕ, ◌-◌}
+use Prim.Native.Nat.{ℕ}
 use native.Mathlib.Omega.{arith}
 use borrow.Author.Rules.{rules}
 use Rattle.ballot.specs.Majority.{holders}

@@ -1,6 +1,5 @@
 -- `ballot::step::most_held` meets its contract: of the remembered value and the first i, `best` is the one that the most hold.
 use mathlib.Core.Path.{◌≡◌, refl, sym, ap, ◌∙◌}
-use Prim.Native.Nat.{◌-◌}
 use native.Mathlib.Omega.{arith}
 use borrow.Author.Rules.{rules}
 use Rattle.ballot.specs.Majority.{holders}

@@ -9,8 +9,8 @@ returns-in_default c = rw c.in_default.is
 
 pub returns-then-x-frames : goal.returns-then-x-frames
 unfolding or_own
-returns-then-x-frames c = rw (c.in-Value.is, lt-ltb _ _ c.if-x-frames.true)
+returns-then-x-frames c = rw (c.in-Some.is, lt-ltb _ _ c.if-x-frames.true)
 
 pub returns : goal.returns
 unfolding or_own
-returns c = rw (c.in-Value.is, le-ltb _ _ c.if-x-frames.false)
+returns c = rw (c.in-Some.is, le-ltb _ _ c.if-x-frames.false)

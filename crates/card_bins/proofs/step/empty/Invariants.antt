@@ -5,6 +5,3 @@ use Rattle.card_bins.proofs.step.empty.Given as goal
 
 abbrev pub invariant-loop-j : goal.invariant-loop-j
 invariant-loop-j l = (l.j ≤ l.nodes) × (l.bins ≡ emptied l.cells l.j l.initial.bins)
-
-abbrev pub decreases-loop-j : goal.decreases-loop-j
-decreases-loop-j l = l.nodes - l.j

@@ -6,6 +6,3 @@ use Rattle.card_bins.proofs.step.mailbox.Given as goal
 
 abbrev pub invariant-loop-j : goal.invariant-loop-j
 invariant-loop-j l = (l.j ≤ l.nodes) × (l.out ≡ placed l.initial.out 0 (mailbox_in l.cells l.j l.bins))
-
-abbrev pub decreases-loop-j : goal.decreases-loop-j
-decreases-loop-j l = l.nodes - l.j

@@ -8,6 +8,3 @@ use Rattle.card_bins.proofs.step.others_filled.Given as goal
 
 abbrev pub invariant-loop-j : goal.invariant-loop-j
 invariant-loop-j l = (l.j ≤ l.nodes) × (all_below (λ i. eqb i l.number || is_filled l.cells l.bins i) l.j ≡ true)
-
-abbrev pub decreases-loop-j : goal.decreases-loop-j
-decreases-loop-j l = l.nodes - l.j

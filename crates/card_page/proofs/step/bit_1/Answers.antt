@@ -1,7 +1,5 @@
 use Rattle.array.specs.Bit.{bit}
 use borrow.Author.Rules.{rules}
-use Rattle.card_page.proofs.step.bit_1.Reads as reads
-use Rattle.card_page.proofs.step.bit_1.Lts as lts
 use Rattle.card_page.proofs.step.bit_1.Goals as goal
 
 -- src/step.rt:34:1

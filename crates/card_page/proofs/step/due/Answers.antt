@@ -1,8 +1,5 @@
 use Rattle.card_page.specs.Page.{timer_due}
 use borrow.Author.Rules.{rules}
-use Rattle.card_page.proofs.step.due.Reads as reads
-use Rattle.card_page.proofs.step.due.Lts as lts
-use Rattle.card_page.proofs.step.bit_0.Reads as bit-0-reads
 use Rattle.card_page.proofs.step.due.Goals as goal
 
 -- src/step.rt:43:5

@@ -1,8 +1,5 @@
 use Rattle.card_page.specs.Page.{bins_full}
 use borrow.Author.Rules.{rules}
-use Rattle.card_page.proofs.step.full.Reads as reads
-use Rattle.card_page.proofs.step.full.Lts as lts
-use Rattle.card_page.proofs.step.bit_1.Reads as bit-1-reads
 use Rattle.card_page.proofs.step.full.Goals as goal
 
 -- src/step.rt:49:5

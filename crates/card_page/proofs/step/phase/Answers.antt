@@ -1,7 +1,5 @@
 use Rattle.card_page.specs.Page.{phase_of}
 use borrow.Author.Rules.{rules}
-use Rattle.card_page.proofs.step.phase.Reads as reads
-use Rattle.card_page.proofs.step.phase.Lts as lts
 use Rattle.card_page.proofs.step.phase.Goals as goal
 
 -- src/step.rt:16:1

@@ -9,7 +9,7 @@ pub returns-then-at-eq1 : goal.returns-then-at-eq1
 returns-then-at-eq1 c = page-at _ 1 c.if-at-eq1.true (page-low _)
 
 pub returns-then-at-eq2 : goal.returns-then-at-eq2
-returns-then-at-eq2 c = page-at _ 2 c.if-at-eq2.true (c.phase.ensures ∙ page-phase _)
+returns-then-at-eq2 c = page-at _ 2 c.if-at-eq2.true (c.number.ensures ∙ c.phase.ensures ∙ page-phase _)
 
 pub returns-then-at-eq3 : goal.returns-then-at-eq3
 returns-then-at-eq3 c = page-at _ 3 c.if-at-eq3.true (c.flag_byte.ensures ∙ page-flags _)

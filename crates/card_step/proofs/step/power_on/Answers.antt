@@ -4,4 +4,4 @@ use Rattle.card_step.proofs.step.power_on.Goals as goal
 
 pub returns : goal.returns
 unfolding powered_state
-returns c = rw c.power_on-memory.ensures
+returns c = rw (c.power_on-memory.ensures, c.number.ensures)

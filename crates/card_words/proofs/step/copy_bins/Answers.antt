@@ -17,7 +17,7 @@ pub bounds-bins-k : goal.bounds-bins-k
 bounds-bins-k c = omega (arith, ap length c.loop-k.invariant.1, fill-length (λ i. get_or c.args.bytes.now (0 + i) 0) c.loop-k.k c.args.bins.now, c.requires)
 
 pub loop-k-preserved : goal.loop-k-preserved
-loop-k-preserved c = (omega arith, stored_next _ _ _ c.loop-k.invariant.1 (c.byte.ensures ∙ rw (zero-add c.loop-k.k)))
+loop-k-preserved c = (omega arith, stored_next _ _ _ c.loop-k.invariant.1 (c.entry_or.ensures ∙ rw (zero-add c.loop-k.k)))
 
 pub shape_of-bins : goal.shape_of-bins
 shape_of-bins c = ap length c.loop-k.invariant.1 ∙ fill-length _ _ _
@@ -25,8 +25,8 @@ shape_of-bins c = ap length c.loop-k.invariant.1 ∙ fill-length _ _ _
 pub returns : goal.returns
 returns c = stored-all _ _ _ c.loop-k.invariant.1 (omega (arith, c.loop-k.invariant.0)) ∙ fill-from 0 _ _ most_bins _ c.requires
 
-pub copy_bytes-requires : goal.copy_bytes-requires
-copy_bytes-requires c = part_length c.args.bytes.now 0 (most_bins - 0) most_bins (omega arith) (omega (arith, c.if-end-bytes.true)) ∙ sym c.requires
+pub copy_from_slice-requires : goal.copy_from_slice-requires
+copy_from_slice-requires c = c.requires ∙ sym (part_length c.args.bytes.now 0 (most_bins - 0) most_bins (omega arith) (omega (arith, c.if-end-bytes.true)))
 
 pub returns-then-end-bytes : goal.returns-then-end-bytes
-returns-then-end-bytes c = c.copy_bytes.ensures ∙ part-from c.args.bytes.now 0 (most_bins - 0) most_bins (omega arith) (omega (arith, c.if-end-bytes.true))
+returns-then-end-bytes c = c.copy_from_slice.ensures.after ∙ part-from c.args.bytes.now 0 (most_bins - 0) most_bins (omega arith) (omega (arith, c.if-end-bytes.true))

@@ -6,6 +6,3 @@ use Rattle.counts.proofs.step.counts.Given as goal
 
 abbrev pub invariant-loop-i : goal.invariant-loop-i
 invariant-loop-i l = (l.i ≤ l.nodes) × (l.good ≡ fill (good_after l.period l.mask l.initial.good) l.i l.initial.good)
-
-abbrev pub decreases-loop-i : goal.decreases-loop-i
-decreases-loop-i l = l.nodes - l.i

@@ -8,6 +8,3 @@ use Rattle.counts.proofs.step.counts_ok.Given as goal
 
 abbrev pub invariant-loop-i : goal.invariant-loop-i
 invariant-loop-i l = (l.i ≤ l.nodes) × (all_below (λ k. leb (get_or l.good k 0) l.period) l.i ≡ true)
-
-abbrev pub decreases-loop-i : goal.decreases-loop-i
-decreases-loop-i l = l.nodes - l.i

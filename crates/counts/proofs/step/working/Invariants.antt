@@ -7,6 +7,3 @@ use Rattle.counts.proofs.step.working.Given as goal
 
 abbrev pub invariant-loop-i : goal.invariant-loop-i
 invariant-loop-i l = (l.i ≤ l.nodes) × (l.nodes ≤ most_nodes) × (l.count ≡ how_many (is_working l.period l.mask l.good) l.i) × (l.count ≤ l.i)
-
-abbrev pub decreases-loop-i : goal.decreases-loop-i
-decreases-loop-i l = l.nodes - l.i

@@ -28,8 +28,8 @@ pub overflow_add-at : goal.overflow_add-at
 overflow_add-at c = let l = c.loop-j in
     omega (arith, times-most l.j c.part_size-size.result most_part (omega arith) l.invariant.2)
 
-pub slice_bounds-fill_part-end : goal.slice_bounds-fill_part-end
-slice_bounds-fill_part-end c = let l = c.loop-j in
+pub slice_bounds-fill-end : goal.slice_bounds-fill-end
+slice_bounds-fill-end c = let l = c.loop-j in
     omega (arith, bin-ends l.j c.part_size-size.result c.loop-j-test.true (le_refl (c.args.s.nodes * c.part_size-size.result)), l.invariant.4)
 
 pub loop-j-preserved : goal.loop-j-preserved
@@ -45,9 +45,9 @@ loop-j-preserved c = let a = c.args in
         l.invariant.1,
         l.invariant.2,
         l.invariant.3,
-        ap length w.faults-is ∙ filled-length a.s.nodes size l.held l.faults _ l.j a.fill refl z t l.invariant.4 w.fill_part.ensures,
+        ap length w.faults-is ∙ filled-length a.s.nodes size l.held l.faults _ l.j a.fill refl z t l.invariant.4 (w.fill.ensures.after (λ y e. e)),
         w.held-is ∙ held_next a.mask a.fill a.held.now l.j l.invariant.5 c.is_bad.ensures _ w.if-is_bad-held.true,
-        held_same a.s.nodes size (filled-held a.s.nodes size l.held l.faults _ l.j a.fill refl z t l.invariant.4 w.fill_part.ensures (omega arith) l.invariant.6) w.held-is w.faults-is,
+        held_same a.s.nodes size (filled-held a.s.nodes size l.held l.faults _ l.j a.fill refl z t l.invariant.4 (w.fill.ensures.after (λ y e. e)) (omega arith) l.invariant.6) w.held-is w.faults-is,
       )
       | else-is_bad-held w ↦ (
         omega arith,

@@ -5,6 +5,3 @@ use Rattle.history_masks.proofs.step.bad_in.Given as goal
 
 abbrev pub invariant-loop-k : goal.invariant-loop-k
 invariant-loop-k l = bad_in (l.period - l.k) l.masks l.rest ≡ bad_in l.period 0 l.past
-
-abbrev pub decreases-loop-k : goal.decreases-loop-k
-decreases-loop-k l = l.period - l.k

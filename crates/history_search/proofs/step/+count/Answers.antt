@@ -62,10 +62,6 @@ overflow_add-total t c =
       found-fit c.args.nodes c.args.period (past_of c.args.done c.args.past) (c.args.left - 1) (c.loop-mask.mask + 1) c.requires.0 (omega (arith, c.requires.2, c.requires.3)) (omega (arith, l)),
     )
 
-pub overflow_add-mask : goal.overflow_add-mask
-overflow_add-mask t c =
-    omega (arith, c.loop-mask.invariant.1, masks-few c.args.nodes c.requires.0)
-
 pub loop-mask-smaller : goal.loop-mask-smaller
 loop-mask-smaller t c =
     let l = mask-in c.args.nodes c.loop-mask.mask c.requires.0 c.loop-mask-test.true in

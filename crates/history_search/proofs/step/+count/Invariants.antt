@@ -8,8 +8,5 @@ use Rattle.history_search.proofs.step.+count.Given as goal
 abbrev pub invariant-loop-mask : goal.invariant-loop-mask
 invariant-loop-mask l = (l.total ≡ length (found_below l.nodes l.period (past_of l.done l.past) (l.left - 1) l.mask)) × (l.mask ≤ 2 ^ l.nodes)
 
-abbrev pub decreases-loop-mask : goal.decreases-loop-mask
-decreases-loop-mask l = 2 ^ l.nodes - l.mask
-
 abbrev pub decreases-count : goal.decreases-count
 decreases-count l = l.left

@@ -19,7 +19,7 @@ overflow_add-done t c =
 
 pub put_last-requires : goal.put_last-requires
 put_last-requires t c =
-    (c.requires.0, last_fits c.args.nodes c.args.period c.args.done c.args.past c.requires.0 c.requires.4 c.requires.1 c.bad_in-bad.ensures, held-few c.args.done c.args.past (omega (arith, c.requires.2, c.requires.3)) c.requires.4.fits, omega (arith, c.requires.5, ap length (last-bytes c.args.nodes c.args.period c.args.done c.args.past c.requires.0 c.requires.4 c.requires.1 c.bad_in-bad.ensures c.if-left-eq1.true)))
+    (c.requires.0, last_fits c.args.nodes c.args.period c.args.done c.args.past c.requires.0 c.requires.4 c.requires.1 c.bad_in-bad.ensures, held-few c.args.done c.args.past (omega (arith, c.requires.2, c.requires.3)) c.requires.4.fits, omega (arith, c.requires.5, ap length (last-bytes c.args.nodes c.args.period c.args.done c.args.past c.requires.0 c.requires.4 c.requires.1 c.bad_in-bad.ensures c.if-left-eq1.true)), omega (arith, c.requires.3))
 
 pub shape_of-out-then-left-eq1 : goal.shape_of-out-then-left-eq1
 shape_of-out-then-left-eq1 t c = c.put_last.auto.out
@@ -81,10 +81,6 @@ put-end-requires t c =
         ),
       ),
     )
-
-pub overflow_add-mask : goal.overflow_add-mask
-overflow_add-mask t c =
-    omega (arith, c.loop-mask.invariant.2, masks-few c.args.nodes c.requires.0)
 
 pub loop-mask-smaller : goal.loop-mask-smaller
 loop-mask-smaller t c =

@@ -8,8 +8,5 @@ use Rattle.history_search.proofs.step.+put.Given as goal
 abbrev pub invariant-loop-mask : goal.invariant-loop-mask
 invariant-loop-mask l = (l.out ≡ placed l.initial.out l.at (bytes_found l.nodes l.period l.done l.past (l.left - 1) l.mask)) × (l.end ≡ l.at + length (bytes_found l.nodes l.period l.done l.past (l.left - 1) l.mask)) × (l.mask ≤ 2 ^ l.nodes)
 
-abbrev pub decreases-loop-mask : goal.decreases-loop-mask
-decreases-loop-mask l = 2 ^ l.nodes - l.mask
-
 abbrev pub decreases-put : goal.decreases-put
 decreases-put l = l.left

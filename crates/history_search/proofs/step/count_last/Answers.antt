@@ -29,10 +29,6 @@ overflow_add-total c =
     let now = c.loop-mask in
     omega (arith, now.invariant.0, now.invariant.1, how_many-bound (λ m. bit c.args.most (bit_or c.args.bad m)) now.mask, masks-few c.args.nodes c.requires.0)
 
-pub overflow_add-mask : goal.overflow_add-mask
-overflow_add-mask c =
-    omega (arith, c.loop-mask.invariant.1, masks-few c.args.nodes c.requires.0)
-
 pub loop-mask-smaller : goal.loop-mask-smaller
 loop-mask-smaller c =
     omega (arith, mask-in c.args.nodes c.loop-mask.mask c.requires.0 c.loop-mask-test.true)

@@ -7,6 +7,3 @@ use Rattle.history_search.proofs.step.count_last.Given as goal
 
 abbrev pub invariant-loop-mask : goal.invariant-loop-mask
 invariant-loop-mask l = (l.total ≡ how_many (λ m. bit l.most (bit_or l.bad m)) l.mask) × (l.mask ≤ 2 ^ l.nodes)
-
-abbrev pub decreases-loop-mask : goal.decreases-loop-mask
-decreases-loop-mask l = 2 ^ l.nodes - l.mask

@@ -39,14 +39,16 @@ pub put_masks-requires : goal.put_masks-requires
 put_masks-requires c =
     let now = c.loop-mask in
     let l = mask-in c.args.nodes now.mask c.requires.0 c.loop-mask-test.true in
-    let t = sym c.most_work.ensures ∙ c.if-most_work.true in
-    omega (
-      arith,
-      c.requires.3,
-      now.invariant.1,
-      now.invariant.3,
-      last-longer c.args.most c.args.bad c.args.past c.args.frames now.mask t,
-      last_within c.args.most c.args.bad c.args.past c.args.frames (now.mask + 1) (2 ^ c.args.nodes) (omega (arith, l)),
+    let t = sym c.most_work.ensures ∙ c.if-most_work.true in (
+      c.requires.4,
+      omega (
+        arith,
+        c.requires.3,
+        now.invariant.1,
+        now.invariant.3,
+        last-longer c.args.most c.args.bad c.args.past c.args.frames now.mask t,
+        last_within c.args.most c.args.bad c.args.past c.args.frames (now.mask + 1) (2 ^ c.args.nodes) (omega (arith, l)),
+      ),
     )
 
 pub overflow_add-end : goal.overflow_add-end
@@ -62,10 +64,6 @@ overflow_add-end c =
       last-longer c.args.most c.args.bad c.args.past c.args.frames now.mask t,
       last_within c.args.most c.args.bad c.args.past c.args.frames (now.mask + 1) (2 ^ c.args.nodes) (omega (arith, l)),
     )
-
-pub overflow_add-mask : goal.overflow_add-mask
-overflow_add-mask c =
-    omega (arith, c.loop-mask.invariant.2, masks-few c.args.nodes c.requires.0)
 
 pub loop-mask-smaller : goal.loop-mask-smaller
 loop-mask-smaller c =

@@ -4,13 +4,11 @@ use mathlib.Core.List.{List}
 use Prim.Native.Nat.{ℕ, ◌+◌, ◌-◌}
 use native.Mathlib.Omega.{arith}
 use native.Mathlib.Nat.{zero-mul}
-use borrow.Author.Rules.{rules}
 use borrow.Rule.Slice.PartMut.{same_len_mid}
 use Rattle.plan.specs.declared.Sizes.{Sizes}
 use Rattle.plan.proofs.AcceptedLaws.{shape-of-accepted}
 use Rattle.system.specs.Fault.{faults_size}
 use Rattle.faults.specs.Code.{Held}
-use Rattle.rows.proofs.RowLaws.{rows_seen}
 use Rattle.run_line.specs.Line.{run_line_size, printed_size}
 use Rattle.run_line.specs.Listing.{line_numbers}
 use Rattle.lines.proofs.RowsLaws.{sizes-are}
@@ -35,8 +33,6 @@ loop-at-init c =
       to_is = sym (zero-mul (printed_size p.actuators));
       few = omega (arith, q.2);
       out-long = refl;
-      counters-long = search rules;
-      cells-long = search rules;
       held-long = q.4;
       faults-long = q.5 ∙ ap faults_size (sym e);
       parts = subst (λ (t : Sizes). Held t a.held.now a.faults.now) (sym e) q.6;
@@ -49,8 +45,8 @@ frame_numbers-read-requires c = let h = shape-of-accepted c.args.run.plan c.requ
 pub overflow_add-to : goal.overflow_add-to
 overflow_add-to c = omega (arith, (line-room c.loop-at.invariant c.printed_size-width.ensures c.requires.3 c.requires.7 (omega (arith, c.loop-at-test.true))).1, (shape-of-accepted c.args.run.plan c.requires.0).actuators-le)
 
-pub slice_bounds-line_on_rows-end-in-loop-at-2 : goal.slice_bounds-line_on_rows-end-in-loop-at-2
-slice_bounds-line_on_rows-end-in-loop-at-2 c = (line-room c.loop-at.invariant c.printed_size-width.ensures c.requires.3 c.requires.7 (omega (arith, c.loop-at-test.true))).0
+pub slice_bounds-line_on_rows-end : goal.slice_bounds-line_on_rows-end
+slice_bounds-line_on_rows-end c = (line-room c.loop-at.invariant c.printed_size-width.ensures c.requires.3 c.requires.7 (omega (arith, c.loop-at-test.true))).0
 
 pub line_on_rows-requires : goal.line_on_rows-requires
 unfolding line_numbers
@@ -62,8 +58,6 @@ line_on_rows-requires c =
       i.held-long,
       i.faults-long,
       i.parts,
-      i.counters-long,
-      i.cells-long,
       place-lent i c.printed_size-width.ensures (line-room c.loop-at.invariant c.printed_size-width.ensures c.requires.3 c.requires.7 (omega (arith, c.loop-at-test.true))).0,
       c.table-cams.ensures,
     )
@@ -80,7 +74,7 @@ returns-then-not-line_on_rows c =
     let r = c.args.run in
     let held : List ℕ = c.line_on_rows.new.held in
     let faults : List ℕ = c.line_on_rows.new.faults in
-    let y = line_refused c.loop-at.invariant c.line_size-size.ensures c.printed_size-width.ensures c.part_end-end.ensures (omega (arith, c.loop-at-test.true)) c.frame_numbers-read.ensures c.line_on_rows.ensures.2 r.system r.single (rows_seen c.seen_words-seen.ensures c.unpack.ensures.0) (c.unpack.ensures.1 ∙ c.put_memory.ensures.here) c.if-not-line_on_rows.true r.period c.stopped.result c.stopped.ensures in
+    let y = line_refused c.loop-at.invariant c.line_size-size.ensures c.printed_size-width.ensures c.part_end-end.ensures (omega (arith, c.loop-at-test.true)) c.frame_numbers-read.ensures c.line_on_rows.ensures.2 r.system r.single c.beside-rows.ensures.0 c.beside-rows.ensures.1 c.if-not-line_on_rows.true r.period c.stopped.result c.stopped.ensures in
     (y.0, c.line_on_rows.ensures.0, subst (λ (t : Sizes). Held t held faults) (sizes-are r.plan c.sizes_with-s.ensures c.requires.1) c.line_on_rows.ensures.1, y.1)
 
 pub overflow_add-at : goal.overflow_add-at
@@ -97,8 +91,8 @@ unfolding line_numbers
 loop-at-preserved c =
     let r = c.args.run in
     let kept = c.line_on_rows.auto in
-    line-run c.loop-at.invariant c.line_size-size.ensures c.printed_size-width.ensures c.part_end-end.ensures (omega (arith, c.loop-at-test.true)) c.frame_numbers-read.ensures c.line_on_rows.ensures.2 r.system r.single (rows_seen c.seen_words-seen.ensures c.unpack.ensures.0) (c.unpack.ensures.1 ∙ c.put_memory.ensures.here) c.if-not-line_on_rows.false
-    kept.out kept.counters kept.cells c.line_on_rows.ensures.0 kept.faults c.line_on_rows.ensures.1
+    line-run c.loop-at.invariant c.line_size-size.ensures c.printed_size-width.ensures c.part_end-end.ensures (omega (arith, c.loop-at-test.true)) c.frame_numbers-read.ensures c.line_on_rows.ensures.2 r.system r.single c.beside-rows.ensures.0 c.beside-rows.ensures.1 c.if-not-line_on_rows.false
+    kept.out c.line_on_rows.ensures.0 kept.faults c.line_on_rows.ensures.1
 
 pub shape_of-faults : goal.shape_of-faults
 shape_of-faults c = c.loop-at.invariant.faults-long ∙ ap faults_size (sizes-are c.args.run.plan c.sizes_with-s.ensures c.requires.1) ∙ sym c.requires.5
@@ -107,7 +101,7 @@ pub returns : goal.returns
 returns c =
     let r = c.args.run in
     let i = c.loop-at.invariant in
-    let y = lines-ended i r.system r.single (rows_seen c.seen_words-seen.ensures c.unpack.ensures.0) (c.unpack.ensures.1 ∙ c.put_memory.ensures.here) (omega (arith, c.loop-at-test.false)) r.period c.stopped-2.result c.stopped-2.ensures in
+    let y = lines-ended i r.system r.single c.beside-rows.ensures.0 c.beside-rows.ensures.1 (omega (arith, c.loop-at-test.false)) r.period c.stopped-2.result c.stopped-2.ensures in
     (y.0, i.held-long, subst (λ (t : Sizes). Held t c.loop-at.held c.loop-at.faults) (sizes-are r.plan c.sizes_with-s.ensures c.requires.1) i.parts, y.1)
 
 pub overflow_add-frame : goal.overflow_add-frame
@@ -116,35 +110,11 @@ overflow_add-frame c = omega (arith, c.loop-at.invariant.few)
 pub part_end-end-requires : goal.part_end-end-requires
 part_end-end-requires c = omega (arith, c.loop-at-test.true)
 
-pub slice_bounds-line_on_rows-end : goal.slice_bounds-line_on_rows-end
-slice_bounds-line_on_rows-end c = sym c.loop-at.invariant.counters-long
-
-pub slice_bounds-line_on_rows-end-in-loop-at : goal.slice_bounds-line_on_rows-end-in-loop-at
-slice_bounds-line_on_rows-end-in-loop-at c = sym c.loop-at.invariant.cells-long
-
-pub slice_bounds-stopped-end : goal.slice_bounds-stopped-end
-slice_bounds-stopped-end c = sym (c.line_on_rows.auto.counters ∙ c.loop-at.invariant.counters-long)
-
-pub slice_bounds-stopped-end-then-not-line_on_rows : goal.slice_bounds-stopped-end-then-not-line_on_rows
-slice_bounds-stopped-end-then-not-line_on_rows c = sym (c.line_on_rows.auto.cells ∙ c.loop-at.invariant.cells-long)
-
-pub stopped-requires : goal.stopped-requires
-stopped-requires c = (c.line_on_rows.auto.counters ∙ c.loop-at.invariant.counters-long, c.line_on_rows.auto.cells ∙ c.loop-at.invariant.cells-long)
-
 pub overflow_add-k : goal.overflow_add-k
 overflow_add-k c = omega (arith, c.loop-at.invariant.few)
 
-pub slice_bounds-stopped-end-2 : goal.slice_bounds-stopped-end-2
-slice_bounds-stopped-end-2 c = sym c.loop-at.invariant.counters-long
-
-pub slice_bounds-stopped-end-3 : goal.slice_bounds-stopped-end-3
-slice_bounds-stopped-end-3 c = sym c.loop-at.invariant.cells-long
-
 pub overflow_add-first : goal.overflow_add-first
 overflow_add-first c = omega (arith, c.loop-at.invariant.few)
-
-pub stopped-requires-2 : goal.stopped-requires-2
-stopped-requires-2 c = (c.loop-at.invariant.counters-long, c.loop-at.invariant.cells-long)
 
 pub shape_of-out : goal.shape_of-out
 shape_of-out c = c.loop-at.invariant.out-long

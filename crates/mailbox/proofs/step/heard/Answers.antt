@@ -1,6 +1,6 @@
 -- `mailbox::step::heard` meets its contract: the loop has read what is heard of the first j nodes.
 use mathlib.Core.Path.{sym, ap, ◌∙◌}
-use Prim.Native.Nat.{◌-◌, ◌<◌}
+use Prim.Native.Nat.{◌<◌}
 use native.Mathlib.Omega.{arith}
 use lib.ListN.{length, replicate, length-set}
 use borrow.Author.Rules.{rules}

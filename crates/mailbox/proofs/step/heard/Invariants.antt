@@ -1,5 +1,5 @@
 use mathlib.Core.Path.{◌≡◌}
-use Prim.Native.Nat.{◌+◌, ◌-◌, ◌*◌, ◌≤◌}
+use Prim.Native.Nat.{◌+◌, ◌*◌, ◌≤◌}
 use lib.ListN.{length, get_or}
 use Rattle.plan.specs.Limits.{most_nodes}
 use Rattle.ballot.specs.Code.{Told}
@@ -8,6 +8,3 @@ use Rattle.mailbox.proofs.step.heard.Given as goal
 
 abbrev pub invariant-loop-j : goal.invariant-loop-j
 invariant-loop-j l = (l.j ≤ l.nodes) × (length l.all ≡ most_nodes) × Told (heard_of l.mask (λ k. word_from l.bytes l.w (l.at + k * l.apart)) (λ k. get_or l.words k 0)) l.j l.all
-
-abbrev pub decreases-loop-j : goal.decreases-loop-j
-decreases-loop-j l = l.nodes - l.j

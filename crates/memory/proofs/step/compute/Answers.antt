@@ -1,6 +1,5 @@
 -- `memory::step::compute` meets its contract: the loop has run the tasks of the frame among the first k.
 use mathlib.Core.Path.{ap, ◌∙◌}
-use Prim.Native.Nat.{◌-◌}
 use native.Mathlib.Omega.{arith}
 use native.Mathlib.Nat.{mod-lt}
 use lib.ListN.{length}
@@ -23,10 +22,10 @@ pub run_task-requires : goal.run_task-requires
 run_task-requires c =
     let a = c.args in
     let q = c.requires in
-    let s = shape-of-accepted a.plan q.0 in
+    let s = shape-of-accepted a.plan.now q.0 in
     let l = c.loop-k in
     let here = c.loop-k-test.true in
-    (ap length l.invariant.2 ∙ run_tasks-length a.plan _ _ _ _ ∙ search rules, omega (arith, s.target l.k here, s.cells-le), op-in a.plan s l.k here q.1, l.invariant.6)
+    (ap length l.invariant.2 ∙ run_tasks-length a.plan.now _ _ _ _ ∙ search rules, omega (arith, s.target l.k here, s.cells-le), op-in a.plan.now s l.k here q.1, l.invariant.6)
 
 pub loop-k-preserved : goal.loop-k-preserved
 loop-k-preserved c =
@@ -36,6 +35,6 @@ loop-k-preserved c =
 pub returns : goal.returns
 returns c =
     let l = c.loop-k in
-    let p = c.args.plan in
-    computed-is p c.args.sensors.now c.args.memory
+    let p = c.args.plan.now in
+    computed-is p c.args.sensors.now c.args.memory.now
     (elim c.loop-k-test.branch [ else-loop-k-test w ↦ tasks-end p _ _ _ l.invariant.2 (omega (arith, w.loop-k-test.false, l.invariant.0)) | then-loop-k-test+then-g-frame w ↦ tasks-later p _ _ _ (shape-of-accepted p c.requires.0) l.invariant.2 w.loop-k-test.true w.if-g-frame.true ])

@@ -1,5 +1,5 @@
 use mathlib.Core.Path.{◌≡◌}
-use Prim.Native.Nat.{◌+◌, ◌-◌, ◌%◌, ◌≤◌, ◌<◌}
+use Prim.Native.Nat.{◌+◌, ◌%◌, ◌≤◌, ◌<◌}
 use Rattle.plan.specs.Limits.{most_frames, most_tasks}
 use Rattle.cam.specs.Cam.{cam_table}
 use Rattle.task.specs.Task.{run_tasks}
@@ -7,6 +7,3 @@ use Rattle.memory.proofs.step.compute.Given as goal
 
 abbrev pub invariant-loop-k : goal.invariant-loop-k
 invariant-loop-k l = (l.k ≤ l.count) × (l.count ≤ most_tasks) × (l.cells ≡ run_tasks l.plan l.g l.sensors l.k l.initial.cells) × (l.frames ≤ most_frames) × (l.g < l.frames) × ((l.g + 1) % l.frames < l.frames) × (l.cams ≡ cam_table)
-
-abbrev pub decreases-loop-k : goal.decreases-loop-k
-decreases-loop-k l = l.count - l.k

@@ -1,24 +1,27 @@
--- `memory::step::setpoints` meets its contract: what it lends is the plan's.
-use mathlib.Core.Path.{refl, ap, ◌∙◌}
-use Prim.Native.Nat.{ℕ}
+-- `memory::step::setpoints` meets its contract: the loop has stored the first i setpoints.
+use mathlib.Core.Path.{refl, sym}
 use native.Mathlib.Omega.{arith}
-use Rattle.array.specs.Index.{fill}
-use Rattle.memory.specs.Node.{setpoint}
+use Rattle.array.proofs.PlacesLaws.{fill_none}
+use Rattle.array.proofs.LoopLaws.{stored_next, stored-all}
 use Rattle.plan.proofs.AcceptedLaws.{shape-of-accepted}
-use borrow.Author.Rules.{rules}
+use Rattle.memory.specs.Node.{setpoint}
 use Rattle.memory.proofs.step.setpoints.Goals as goal
 
-pub setpoints_with-requires : goal.setpoints_with-requires
-setpoints_with-requires c =
-    let q = c.requires in
-    let s = shape-of-accepted c.args.plan q.0 in
-    (omega (arith, q.1, s.actuators-le), λ i l. omega (arith, s.actuator i (omega (arith, q.1)), s.cells-le))
+pub loop-i-init : goal.loop-i-init
+loop-i-init c = sym (fill_none _ _)
 
-pub shape_of-out : goal.shape_of-out
-shape_of-out c = search rules
+pub bounds-plan-i : goal.bounds-plan-i
+bounds-plan-i c = let s = shape-of-accepted _ c.requires.0 in omega (arith, s.actuators-le)
+
+pub offset_bounds-memory-cell : goal.offset_bounds-memory-cell
+offset_bounds-memory-cell c = let s = shape-of-accepted _ c.requires.0 in omega (arith, s.actuator c.loop-i.i c.loop-i-test.true, s.cells-le)
+
+pub bounds-memory-cell : goal.bounds-memory-cell
+bounds-memory-cell c = let s = shape-of-accepted _ c.requires.0 in omega (arith, s.actuator c.loop-i.i c.loop-i-test.true, s.cells-le)
+
+pub loop-i-preserved : goal.loop-i-preserved
+unfolding setpoint
+loop-i-preserved c = stored_next _ _ _ c.loop-i.invariant refl
 
 pub returns : goal.returns
-returns c =
-    let a = c.args in
-    c.setpoints_with.ensures a.plan a.memory refl refl
-    ∙ ap (λ (n : ℕ). fill (setpoint a.plan a.memory) n a.out.now) c.requires.1
+returns c = stored-all _ _ _ c.loop-i.invariant (omega arith)

@@ -1,5 +1,5 @@
 -- `numeral::step::few` meets its contract. The loop's invariant: the first `i` bytes are digits, and `v` is the number that they are.
-use Rattle.std.proofs.Common.{◌≡◌, ◌-◌, true, length, get_or, refl, arith, rules}
+use Rattle.std.proofs.Common.{◌≡◌, length, get_or, refl, arith, rules}
 use Rattle.array.specs.Index.{all_below}
 use Rattle.numeral.specs.Numeral.{decimal}
 use Rattle.numeral.proofs.NumeralLaws.{digit-yes, digit-no, first-bad, first_good, decimal-more, digits_more, numeral-empty, numeral-other, numeral-whole, power-more, power_below}

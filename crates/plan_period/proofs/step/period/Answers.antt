@@ -9,6 +9,7 @@ use Rattle.plan.specs.Tables.{task_at}
 use Rattle.plan_walk.specs.Code.{after_task}
 use Rattle.plan.proofs.AcceptedLaws.{Shape, shape_of, bound-small}
 use Rattle.plan_walk.proofs.WalkedLaws.{Walked, next-short, walked_start, walked-task, walked_next, walked-wrap, walked-found, walked_none}
+use Rattle.plan_period.proofs.AnswerLaws.{some-any, none-any}
 use Rattle.plan_period.proofs.step.period.Goals as goal
 use Rattle.plan_period.proofs.step.period.Goals.{then-i-count+else-t-w, else-i-count}
 
@@ -44,7 +45,7 @@ pub bounds-p-i : goal.bounds-p-i
 bounds-p-i c = let p = c.args.p in let s = shape_of p c.requires in let b = bound-small p s in omega (arith, s.tasks-le, c.if-i-count.true)
 
 pub ones-requires : goal.ones-requires
-ones-requires c = let p = c.args.p in let s = shape_of p c.requires in let b = bound-small p s in omega (arith, c.least.ensures, s.frames-le)
+ones-requires c = let p = c.args.p in let s = shape_of p c.requires in let b = bound-small p s in omega (arith, c.min.ensures, s.frames-le)
 
 pub put_known-requires : goal.put_known-requires
 put_known-requires c = let p = c.args.p in let s = shape_of p c.requires in let b = bound-small p s in lt_of_lt_of_le (s.target c.loop-w.i c.if-i-count.true) s.cells-le
@@ -56,7 +57,7 @@ pub loop-w-smaller-then-t-w : goal.loop-w-smaller-then-t-w
 loop-w-smaller-then-t-w c = let p = c.args.p in let s = shape_of p c.requires in let b = bound-small p s in omega (arith, s.tasks-le, c.if-i-count.true)
 
 pub loop-w-preserved-then-t-w : goal.loop-w-preserved-then-t-w
-loop-w-preserved-then-t-w c = let p = c.args.p in let s = shape_of p c.requires in let b = bound-small p s in let e : c.put_known.new.words ≡ after_task (2 ^ min c.loop-w.w.time p.frames - 1) c.loop-w.words (task_at p c.loop-w.i) = c.put_known.ensures ∙ ap (λ (x : ℕ). after_task x c.loop-w.words (task_at p c.loop-w.i)) (c.ones.ensures ∙ ap (λ (n : ℕ). 2 ^ n - 1) c.least.ensures) in (c.loop-w.invariant.0, subst (λ (ws : List ℕ). Walked p ws c.loop-w.w (c.loop-w.i + 1)) (sym e) (walked-task p s c.loop-w.words c.loop-w.w c.loop-w.i c.loop-w.invariant.1 c.if-i-count.true c.if-t-w.true))
+loop-w-preserved-then-t-w c = let p = c.args.p in let s = shape_of p c.requires in let b = bound-small p s in let e : c.put_known.new.words ≡ after_task (2 ^ min c.loop-w.w.time p.frames - 1) c.loop-w.words (task_at p c.loop-w.i) = c.put_known.ensures ∙ ap (λ (x : ℕ). after_task x c.loop-w.words (task_at p c.loop-w.i)) (c.ones.ensures ∙ ap (λ (n : ℕ). 2 ^ n - 1) c.min.ensures) in (c.loop-w.invariant.0, subst (λ (ws : List ℕ). Walked p ws c.loop-w.w (c.loop-w.i + 1)) (sym e) (walked-task p s c.loop-w.words c.loop-w.w c.loop-w.i c.loop-w.invariant.1 c.if-i-count.true c.if-t-w.true))
 
 pub closed-w-requires : goal.closed-w-requires
 closed-w-requires c = let p = c.args.p in let s = shape_of p c.requires in let b = bound-small p s in let h = c.loop-w.invariant.1 in (rw h.now (mod-lt c.loop-w.w.time s.frames-pos), s.frames-le, s.cells-le, omega (arith, h.low), omega (arith, s.frames-le, c.loop-w.invariant.0))
@@ -65,7 +66,7 @@ pub overflow_add-result : goal.overflow_add-result
 overflow_add-result c = let p = c.args.p in let s = shape_of p c.requires in let b = bound-small p s in let h = c.loop-w.invariant.1 in omega (arith, next-short p s c.loop-w.words c.loop-w.w c.closed-w.new.words c.closed-w.result c.loop-w.i h (rest p c.loop-w.words c.loop-w.w c.loop-w.i s h (elim c.if-i-count.branch [ then-i-count+else-t-w w ↦ λ _. w.if-t-w.false | else-i-count w ↦ λ k. absurd (omega arith) ])) c.closed-w.ensures, c.closed-w.ensures.time, c.loop-w.invariant.0, s.frames-le)
 
 pub returns-then-w-frames : goal.returns-then-w-frames
-returns-then-w-frames c = let p = c.args.p in let s = shape_of p c.requires in let b = bound-small p s in let h = c.loop-w.invariant.1 in sym (walked-found p s c.loop-w.words c.loop-w.w c.closed-w.new.words c.closed-w.result c.loop-w.i h (rest p c.loop-w.words c.loop-w.w c.loop-w.i s h (elim c.if-i-count.branch [ then-i-count+else-t-w w ↦ λ _. w.if-t-w.false | else-i-count w ↦ λ k. absurd (omega arith) ])) c.closed-w.ensures c.if-w-frames.true)
+returns-then-w-frames c = let p = c.args.p in let s = shape_of p c.requires in let b = bound-small p s in let h = c.loop-w.invariant.1 in some-any _ _ (sym (walked-found p s c.loop-w.words c.loop-w.w c.closed-w.new.words c.closed-w.result c.loop-w.i h (rest p c.loop-w.words c.loop-w.w c.loop-w.i s h (elim c.if-i-count.branch [ then-i-count+else-t-w w ↦ λ _. w.if-t-w.false | else-i-count w ↦ λ k. absurd (omega arith) ])) c.closed-w.ensures c.if-w-frames.true)) (omega arith)
 
 pub loop-w-smaller-then-w-eq0 : goal.loop-w-smaller-then-w-eq0
 loop-w-smaller-then-w-eq0 c = let p = c.args.p in let s = shape_of p c.requires in let b = bound-small p s in let h = c.loop-w.invariant.1 in omega (arith, c.closed-w.ensures.time, c.loop-w-test.true, s.tasks-le)
@@ -80,4 +81,4 @@ pub loop-w-preserved : goal.loop-w-preserved
 loop-w-preserved c = let p = c.args.p in let s = shape_of p c.requires in let b = bound-small p s in let h = c.loop-w.invariant.1 in (omega (arith, c.closed-w.ensures.time, c.loop-w-test.true), walked_next p s c.loop-w.words c.loop-w.w c.closed-w.new.words c.closed-w.result c.loop-w.i h (rest p c.loop-w.words c.loop-w.w c.loop-w.i s h (elim c.if-i-count.branch [ then-i-count+else-t-w w ↦ λ _. w.if-t-w.false | else-i-count w ↦ λ k. absurd (omega arith) ])) c.closed-w.ensures (omega (arith, c.closed-w.ensures.to, c.if-w-frames.false)) c.if-w-eq0.false)
 
 pub returns : goal.returns
-returns c = let p = c.args.p in let s = shape_of p c.requires in let b = bound-small p s in sym (walked_none p s c.loop-w.words c.loop-w.w c.loop-w.i c.loop-w.invariant.1 c.loop-w-test.false)
+returns c = let p = c.args.p in let s = shape_of p c.requires in let b = bound-small p s in none-any _ (walked_none p s c.loop-w.words c.loop-w.w c.loop-w.i c.loop-w.invariant.1 c.loop-w-test.false)

@@ -1,19 +1,20 @@
 -- `plan_text::step::store_actuator` meets its contract: an actuator's cell is stored, and of another line nothing.
 use native.Mathlib.Omega.{arith}
-use borrow.Author.Tests.{eq-eqb, ne_eqb}
+use mathlib.Core.Path.{sym, ◌∙◌}
+use borrow.Author.Tests.{eqb-true}
 use Rattle.plan_grammar.specs.Meant.{actuators_with}
 use Rattle.plan_text.proofs.step.store_actuator.Goals as goal
 
 pub offset_bounds-table-at : goal.offset_bounds-table-at
-offset_bounds-table-at c = omega (arith, c.requires c.if-l-eq-ACTUATOR.true)
+offset_bounds-table-at c = omega (arith, c.requires (eqb-true _ _ (sym c.is.ensures ∙ c.if-is.true)))
 
 pub bounds-table-at : goal.bounds-table-at
-bounds-table-at c = c.requires c.if-l-eq-ACTUATOR.true
+bounds-table-at c = c.requires (eqb-true _ _ (sym c.is.ensures ∙ c.if-is.true))
 
-pub returns-then-l-eq-ACTUATOR : goal.returns-then-l-eq-ACTUATOR
+pub returns-then-is : goal.returns-then-is
 unfolding actuators_with
-returns-then-l-eq-ACTUATOR c = rw (eq-eqb _ _ c.if-l-eq-ACTUATOR.true)
+returns-then-is c = rw (← c.is.ensures, c.if-is.true)
 
-pub returns-else-l-eq-ACTUATOR : goal.returns-else-l-eq-ACTUATOR
+pub returns-else-is : goal.returns-else-is
 unfolding actuators_with
-returns-else-l-eq-ACTUATOR c = rw (ne_eqb _ _ c.if-l-eq-ACTUATOR.false)
+returns-else-is c = rw (← c.is.ensures, c.if-is.false)

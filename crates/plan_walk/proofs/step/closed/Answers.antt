@@ -11,7 +11,7 @@ returns c =
     let u = c.first_unset-low.ensures in
     let k = c.known_by_all-whole.ensures in
     record {
-      words = c.add_votes.ensures ∙ ap (λ (b : ℕ). with_votes a.voted.now a.w.frame a.cells b a.words.now) (c.ones-begun.ensures ∙ ap (λ (n : ℕ). 2 ^ n - 1) c.least.ensures);
+      words = c.add_votes.ensures ∙ ap (λ (b : ℕ). with_votes a.voted.now a.w.frame a.cells b a.words.now) (c.ones-begun.ensures ∙ ap (λ (n : ℕ). 2 ^ n - 1) c.min.ensures);
       from = u.from;
       to = u.to;
       passed = λ g l h. sym (k g (omega (arith, u.to))) ∙ u.passed g l h;

@@ -1,5 +1,4 @@
-use mathlib.Core.Bool.{true}
-use Prim.Native.Nat.{◌-◌}
+use mathlib.Core.Path.{◌≡◌}
 use native.Mathlib.Omega.{arith}
 use borrow.Author.Rules.{rules}
 use Rattle.array.proofs.BitLaws.{bit-clear}
@@ -18,4 +17,5 @@ loop-g-preserved c = (search rules, search rules, unset-more _ _ _ c.loop-g.inva
 
 pub returns : goal.returns
 returns c =
-    record { from = c.loop-g.invariant.0; to = c.loop-g.invariant.1; passed = c.loop-g.invariant.2; stopped = λ h. absurd (omega arith) }
+    let e : c.loop-g.g ≡ c.args.high = omega arith in
+    record { from = omega arith; to = search rules; passed = λ k l m. c.loop-g.invariant.2 k l (omega arith); stopped = λ h. absurd (omega arith) }

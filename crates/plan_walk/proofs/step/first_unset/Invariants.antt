@@ -6,6 +6,3 @@ use Rattle.plan_walk.proofs.step.first_unset.Given as goal
 
 abbrev pub invariant-loop-g : goal.invariant-loop-g
 invariant-loop-g l = (l.low ≤ l.g) × (l.g ≤ l.high) × ((k : ℕ) → l.low ≤ k → k < l.g → bit l.w k ≡ true)
-
-abbrev pub decreases-loop-g : goal.decreases-loop-g
-decreases-loop-g l = l.high - l.g

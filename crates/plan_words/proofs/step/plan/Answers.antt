@@ -1,14 +1,12 @@
 -- `plan_words::step::plan` meets its contract: the first k tasks are whole, and stored.
 use mathlib.Core.Path.{◌≡◌, sym, ap}
-use mathlib.Core.Bool.{true, not}
-use Prim.Native.Nat.{◌-◌}
+use mathlib.Core.Bool.{not}
 use native.Mathlib.Omega.{arith}
 use Rattle.array.proofs.TestLaws.{refused-test, passed-test}
 use Rattle.array.proofs.IndexLaws.{all_below-none, all_below-more}
 use Rattle.array.proofs.LoopLaws.{stored_next, stored-all, all-passed}
 use Rattle.plan.specs.Limits.{most_tasks}
-use Rattle.plan_grammar.specs.Meant.{task_of}
-use Rattle.plan_words.proofs.WordsReadLaws.{task-whole, task-malformed, other_length, other-votes, other-task, plan-read}
+use Rattle.plan_words.proofs.WordsReadLaws.{task-whole, task-none, other_length, other-votes, other-task, plan-read}
 use Rattle.array.proofs.PlacesLaws.{fill_none}
 use borrow.Author.Rules.{rules}
 use Rattle.plan_words.proofs.step.plan.Goals as goal
@@ -17,12 +15,12 @@ pub returns-in_default : goal.returns-in_default
 returns-in_default c =
     let words = c.args.words.now in
     other-task words c.zero_plan-in_default.ensures c.loop-k.k c.loop-k-test.true
-    (task-malformed words _ c.task.result c.task_of.result c.task.ensures c.task_of.ensures c.in_default.is)
+    (task-none words _ c.task.result c.task_of.result c.task.ensures c.task_of.ensures c.in_default.is)
 
 pub loop-k-preserved : goal.loop-k-preserved
 loop-k-preserved c =
     let loop = c.loop-k in
-    let t = task-whole _ _ c.task.result c.task_of.result c.task.ensures c.task_of.ensures c.in-Whole.is in
+    let t = task-whole _ _ c.task.result c.task_of.result c.task.ensures c.task_of.ensures c.in-Some.is in
     (search rules, all_below-more _ loop.k loop.invariant.1 t.0, stored_next _ _ _ loop.invariant.2 t.1)
 
 pub returns : goal.returns

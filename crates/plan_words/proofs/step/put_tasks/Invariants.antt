@@ -1,6 +1,6 @@
 -- `plan_words::step::put_tasks` meets its contract: the numbers of the first k tasks lie one behind the other.
 use mathlib.Core.Path.{◌≡◌}
-use Prim.Native.Nat.{◌-◌, ◌*◌, ◌≤◌}
+use Prim.Native.Nat.{◌*◌, ◌≤◌}
 use lib.ListN.{length}
 use Rattle.array.specs.Index.{joined}
 use Rattle.column.proofs.BufferLaws.{Laid}
@@ -12,6 +12,3 @@ use Rattle.plan_words.proofs.step.put_tasks.Given as goal
 
 abbrev pub invariant-loop-k : goal.invariant-loop-k
 invariant-loop-k l = (l.k ≤ most_tasks) × (length l.initial.out ≡ task_size * most_tasks) × Laid l.initial.out 0 (task_size * l.k) (joined (λ j. task_line (task_at l.plan j)) l.k) l.out
-
-abbrev pub decreases-loop-k : goal.decreases-loop-k
-decreases-loop-k l = most_tasks - l.k

@@ -1,6 +1,6 @@
 use mathlib.Core.Path.{◌≡◌}
 use mathlib.Core.List.{[], ◌∷◌}
-use Prim.Native.Nat.{◌-◌, ◌*◌, ◌≤◌}
+use Prim.Native.Nat.{◌*◌, ◌≤◌}
 use lib.ListN.{get_or}
 use Rattle.plan_grammar.specs.Line.{line_size}
 use Rattle.array.specs.Code.{placed}
@@ -9,6 +9,3 @@ use Rattle.plan_writer.proofs.step.write_cells.Given as goal
 
 abbrev pub invariant-loop-c : goal.invariant-loop-c
 invariant-loop-c l = (l.c ≤ l.cells) × (l.out ≡ placed l.initial.out (line_size * l.from) (rows_of (λ k. 1 ∷ k ∷ 0 ∷ 0 ∷ get_or l.initial' k 0 ∷ 0 ∷ []) l.c))
-
-abbrev pub decreases-loop-c : goal.decreases-loop-c
-decreases-loop-c l = l.cells - l.c

@@ -1,6 +1,6 @@
 -- `plan_writer::step::write_tasks` meets its contract: the loop has written the lines of the first k tasks.
 use mathlib.Core.Path.{◌≡◌, ap, ◌∙◌}
-use Prim.Native.Nat.{ℕ, ◌-◌, ◌*◌}
+use Prim.Native.Nat.{ℕ, ◌*◌}
 use native.Mathlib.Omega.{arith}
 use borrow.Author.Rules.{rules}
 use Rattle.plan.specs.Tables.{task_at}

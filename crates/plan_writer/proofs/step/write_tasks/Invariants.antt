@@ -1,5 +1,5 @@
 use mathlib.Core.Path.{◌≡◌}
-use Prim.Native.Nat.{◌-◌, ◌*◌, ◌≤◌}
+use Prim.Native.Nat.{◌*◌, ◌≤◌}
 use Rattle.plan.specs.Tables.{task_at}
 use Rattle.plan_grammar.specs.Line.{line_size}
 use Rattle.array.specs.Code.{placed}
@@ -9,6 +9,3 @@ use Rattle.plan_writer.proofs.step.write_tasks.Given as goal
 
 abbrev pub invariant-loop-k : goal.invariant-loop-k
 invariant-loop-k l = (l.k ≤ l.count) × (l.out ≡ placed l.initial.out (line_size * l.from) (rows_of (λ j. task_line (task_at l.plan j)) l.k))
-
-abbrev pub decreases-loop-k : goal.decreases-loop-k
-decreases-loop-k l = l.count - l.k

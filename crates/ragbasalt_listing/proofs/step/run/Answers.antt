@@ -3,4 +3,4 @@ use Rattle.ragbasalt_listing.proofs.RunLaws.{run-made}
 use Rattle.ragbasalt_listing.proofs.step.run.Goals as goal
 
 pub returns : goal.returns
-returns c = run-made _ _ c.word-period.ensures c.system-system.ensures c.memory-single.ensures c.word-frame.ensures
+returns c = run-made _ _ c.entry_or-period.ensures c.system-system.ensures c.memory-single.ensures c.entry_or-frame.ensures

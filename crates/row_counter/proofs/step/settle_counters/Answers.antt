@@ -1,6 +1,6 @@
 -- `row_counter::step::settle_counters` meets its contract: the first j nodes have the counter.
 use mathlib.Core.Path.{refl}
-use Prim.Native.Nat.{suc, ◌-◌}
+use Prim.Native.Nat.{suc}
 use native.Mathlib.Omega.{arith}
 use native.Mathlib.Numerals.{add-one}
 use borrow.Author.Rules.{rules}
@@ -41,9 +41,6 @@ loop-j-preserved c =
         rw w.counters-is (put-left suc suc_apart (is_good a.mask) (λ k. a.counter) a.counters.now l.j i.3 (good-if a.mask l.j c.is_bad.ensures (ap not w.if-not-is_bad.false))),
       )
     ]
-
-pub shape_of-counters : goal.shape_of-counters
-shape_of-counters c = c.loop-j.invariant.3.size
 
 pub returns : goal.returns
 returns c =

@@ -1,6 +1,5 @@
 -- `row_frame::step::fault_row` meets its contract: the first c words are read.
 use mathlib.Core.Path.{sym, ◌∙◌}
-use Prim.Native.Nat.{◌-◌}
 use native.Mathlib.Omega.{arith}
 use borrow.Author.Rules.{rules}
 use Rattle.array.proofs.LoopLaws.{stored_next, stored-all}

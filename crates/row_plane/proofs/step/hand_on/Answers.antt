@@ -1,7 +1,7 @@
 -- `row_plane::step::hand_on` meets its contract: the first a values are handed on.
 use mathlib.Core.Path.{◌≡◌, sym, ap, ◌∙◌}
 use mathlib.Core.List.{List}
-use Prim.Native.Nat.{ℕ, ◌-◌}
+use Prim.Native.Nat.{ℕ}
 use native.Mathlib.Omega.{arith}
 use native.Mathlib.Nat.{le_refl}
 use lib.ListN.{get_or}
@@ -21,14 +21,14 @@ remembered : (f : ℕ → ℕ) (a : ℕ) (seen₀ : List ℕ) {seen : List ℕ} 
 remembered f a seen₀ e = ap (λ (l : List ℕ). get_or l a 0) e ∙ fill-out f a seen₀ a 0 (le_refl a)
 
 pub put_out-values-requires : goal.put_out-values-requires
-put_out-values-requires c = let q = c.requires in (q.0, q.1, q.2, q.3 c.loop-a.a c.loop-a-test.true, c.loop-a-test.true)
+put_out-values-requires c = let q = c.requires in (q c.loop-a.a c.loop-a-test.true, c.loop-a-test.true)
 
 pub loop-a-preserved : goal.loop-a-preserved
 loop-a-preserved c = let a = c.args in
     let l = c.loop-a in (
       search rules,
       stored_next _ l.a _ l.invariant.1
-          (plane-told (put_from a.s a.mask a.faults.now a.cells.now (get_or a.table.now l.a 0) l.a) a.s.nodes _ c.put_out-values.ensures
+          (plane-told (put_from a.faults.now.sizes a.faults.now.mask a.faults.now.bytes.now a.cells.now (get_or a.table.now l.a 0) l.a) a.faults.now.sizes.nodes _ c.put_out-values.ensures
           (remembered _ l.a a.seen.now l.invariant.1) c.plane.ensures),
     )
 

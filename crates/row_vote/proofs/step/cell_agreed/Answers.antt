@@ -9,7 +9,7 @@ use Rattle.row_vote.proofs.step.cell_agreed.Goals as goal
 pub returns-then-mask-eq0 : goal.returns-then-mask-eq0
 returns-then-mask-eq0 c =
     let a = c.args in
-    low-alone a.mask a.s.nodes a.low (fault_word a.s a.mask a.faults.now (suc a.c)) (λ j. get_or a.words.now j 0) a.x c.good_holders-held.ensures c.if-mask-eq0.true c.requires.1 c.min.ensures
+    low-alone a.faults.now.mask a.faults.now.sizes.nodes a.low (fault_word a.faults.now.sizes a.faults.now.mask a.faults.now.bytes.now (suc a.c)) (λ j. get_or a.words.now j 0) a.x c.good_holders-held.ensures c.if-mask-eq0.true c.requires.0 c.min.ensures
 
 pub returns : goal.returns
 returns c = rw (add-one c.args.c) at c.agreed.ensures

@@ -1,9 +1,8 @@
 -- `row_vote::step::cell_each` meets its contract: of the first i nodes those that vote on the cell have counted.
+use Rattle.std.specs.Prelude.{Option, unwrap_or}
 use mathlib.Core.Path.{◌≡◌, ap, ◌∙◌}
 use mathlib.Core.Bool.{Bool}
-use mathlib.Core.Option
-use mathlib.Core.Option.{Option}
-use Prim.Native.Nat.{ℕ, suc, ◌-◌}
+use Prim.Native.Nat.{ℕ, suc}
 use native.Mathlib.Omega.{arith}
 use native.Mathlib.Numerals.{add-one}
 use lib.ListN.{get_or}
@@ -24,13 +23,13 @@ use Rattle.row_vote.proofs.step.cell_each.Goals.{else-is_bad-is_voted, then-is_b
 pub loop-i-init : goal.loop-i-init
 loop-i-init c =
     let q = c.requires in
-    (search rules, q.0.nodes, omega (arith, q.0.cells, q.2), q.3, put-none _ (column_apart c.args.c) _ _ _, least-none _ _ _)
+    (search rules, c.args.faults.now.small.nodes, omega (arith, c.args.faults.now.small.cells, q.0), search rules, put-none _ (column_apart c.args.c) _ _ _, least-none _ _ _)
 
 pub is_voted-requires : goal.is_voted-requires
-is_voted-requires c = (c.requires.4 c.loop-i.i c.loop-i-test.true, c.loop-i.invariant.2)
+is_voted-requires c = (c.requires.1 c.loop-i.i c.loop-i-test.true, c.loop-i.invariant.2)
 
 pub heard-all-requires : goal.heard-all-requires
-heard-all-requires c = (c.requires.0, c.requires.1, c.loop-i-test.true, omega (arith, c.requires.2))
+heard-all-requires c = (c.loop-i-test.true, omega (arith, c.requires.0))
 
 pub majority-v-requires : goal.majority-v-requires
 majority-v-requires c = (c.heard-all.ensures.few, c.loop-i.invariant.1)
@@ -53,13 +52,13 @@ loop-i-preserved c =
     let i = l.invariant in
     let a = c.args in
     let place : ℕ → ℕ = λ k. word_place (suc k) a.c in
-    let take : ℕ → Bool = takes a.voted.now a.mask (λ k. get_or a.frames.now k 0) a.c in
-    let bin : ℕ → ℕ → Option ℕ = λ k. heard_word a.s a.mask a.faults.now (λ j. get_or a.words.now j 0) (suc a.c) k in
-    let x : ℕ → ℕ = λ k. Option.get_or (majority (bin k) a.s.nodes) (get_or a.cells.now (place k) 0) in
-    let count : ℕ → ℕ = λ k. agreement (bin k) a.s.nodes in
+    let take : ℕ → Bool = takes a.voted.now a.faults.now.mask (λ k. get_or a.frames.now k 0) a.c in
+    let bin : ℕ → ℕ → Option ℕ = λ k. heard_word a.faults.now.sizes a.faults.now.mask a.faults.now.bytes.now (λ j. get_or a.words.now j 0) (suc a.c) k in
+    let x : ℕ → ℕ = λ k. unwrap_or (majority (bin k) a.faults.now.sizes.nodes) (get_or a.cells.now (place k) 0) in
+    let count : ℕ → ℕ = λ k. agreement (bin k) a.faults.now.sizes.nodes in
     elim c.if-is_bad-is_voted.branch [
       | then-is_bad-is_voted w ↦
-          let t = takes-if a.voted.now a.mask (λ k. get_or a.frames.now k 0) a.c l.i c.is_bad.ensures c.is_voted.ensures w.if-is_bad-is_voted.true in
+          let t = takes-if a.voted.now a.faults.now.mask (λ k. get_or a.frames.now k 0) a.c l.i c.is_bad.ensures c.is_voted.ensures w.if-is_bad-is_voted.true in
           let packs = rw (add-one a.c) at w.heard-all.ensures in
           let at : w.word_place-at.result ≡ place l.i = w.word_place-at.ensures ∙ ap (λ (r : ℕ). word_place r a.c) (add-one l.i) in (
             search rules,
@@ -71,13 +70,13 @@ loop-i-preserved c =
                 t
                 at
                 (omega (arith, w.word_place-at.ensures, i.1, i.2, i.3, c.loop-i-test.true))
-                (counted-old (bin l.i) a.s.nodes packs w.majority-v.ensures
+                (counted-old (bin l.i) a.faults.now.sizes.nodes packs w.majority-v.ensures
                 (ap (λ (k : ℕ). get_or l.cells k 0) at ∙ put-still place (column_apart a.c) take x a.cells.now l.i i.4)
-                w.or_old.ensures)),
-            w.agreed-is ∙ w.min-agreed.ensures ∙ least-taken take count a.low l.i i.5 t (packs-agreement (bin l.i) a.s.nodes packs w.majority-v.ensures w.agreement.ensures),
+                w.unwrap_or.ensures)),
+            w.agreed-is ∙ w.min-agreed.ensures ∙ least-taken take count a.low l.i i.5 t (packs-agreement (bin l.i) a.faults.now.sizes.nodes packs w.majority-v.ensures w.agreement.ensures),
           )
       | else-is_bad-is_voted w ↦
-          let t = takes-if a.voted.now a.mask (λ k. get_or a.frames.now k 0) a.c l.i c.is_bad.ensures c.is_voted.ensures w.if-is_bad-is_voted.false in (
+          let t = takes-if a.voted.now a.faults.now.mask (λ k. get_or a.frames.now k 0) a.c l.i c.is_bad.ensures c.is_voted.ensures w.if-is_bad-is_voted.false in (
             search rules,
             i.1,
             i.2,
@@ -87,14 +86,11 @@ loop-i-preserved c =
           )
     ]
 
-pub shape_of-cells : goal.shape_of-cells
-shape_of-cells c = c.loop-i.invariant.4.size
-
 pub returns : goal.returns
 returns c =
     let a = c.args in
-    let e : c.loop-i.i ≡ a.s.nodes = omega arith in (
+    let e : c.loop-i.i ≡ a.faults.now.sizes.nodes = omega arith in (
       put_all _ (column_apart a.c) _ _ _ c.loop-i.i c.loop-i.invariant.4 e,
       c.loop-i.invariant.5
-          ∙ ap (λ (k : ℕ). lesser a.low (least (takes a.voted.now a.mask (λ i. get_or a.frames.now i 0) a.c) (λ i. agreement (heard_word a.s a.mask a.faults.now (λ j. get_or a.words.now j 0) (suc a.c) i) a.s.nodes) k)) e,
+          ∙ ap (λ (k : ℕ). lesser a.low (least (takes a.voted.now a.faults.now.mask (λ i. get_or a.frames.now i 0) a.c) (λ i. agreement (heard_word a.faults.now.sizes a.faults.now.mask a.faults.now.bytes.now (λ j. get_or a.words.now j 0) (suc a.c) i) a.faults.now.sizes.nodes) k)) e,
     )

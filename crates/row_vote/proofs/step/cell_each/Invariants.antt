@@ -1,7 +1,6 @@
+use Rattle.std.specs.Prelude.{unwrap_or}
 use mathlib.Core.Path.{◌≡◌}
-use mathlib.Core.Option
-use mathlib.Core.Option.{Option}
-use Prim.Native.Nat.{suc, ◌-◌, ◌≤◌, ◌<◌}
+use Prim.Native.Nat.{suc, ◌≤◌, ◌<◌}
 use lib.ListN.{length, get_or}
 use Rattle.array.specs.Index.{lesser, least}
 use Rattle.plan.specs.Limits.{most_nodes, most_cells}
@@ -14,9 +13,6 @@ use Rattle.row_vote.proofs.step.cell_each.Given as goal
 
 abbrev pub invariant-loop-i : goal.invariant-loop-i
 invariant-loop-i l = (l.i ≤ l.nodes) × (l.nodes ≤ most_nodes) × (l.c < most_cells) × (length l.initial.cells ≡ word_count)
-    × Put (λ k. word_place (suc k) l.c) (takes l.voted l.mask (λ k. get_or l.frames k 0) l.c)
-    (λ k. Option.get_or (majority (heard_word l.s l.mask l.faults (λ j. get_or l.words j 0) (suc l.c) k) l.nodes) (get_or l.initial.cells (word_place (suc k) l.c) 0)) l.i l.initial.cells l.cells
-    × (l.agreed ≡ lesser l.low (least (takes l.voted l.mask (λ k. get_or l.frames k 0) l.c) (λ k. agreement (heard_word l.s l.mask l.faults (λ j. get_or l.words j 0) (suc l.c) k) l.nodes) l.i))
-
-abbrev pub decreases-loop-i : goal.decreases-loop-i
-decreases-loop-i l = l.nodes - l.i
+    × Put (λ k. word_place (suc k) l.c) (takes l.voted l.faults.mask (λ k. get_or l.frames k 0) l.c)
+    (λ k. unwrap_or (majority (heard_word l.faults.sizes l.faults.mask l.faults.bytes.now (λ j. get_or l.words j 0) (suc l.c) k) l.nodes) (get_or l.initial.cells (word_place (suc k) l.c) 0)) l.i l.initial.cells l.cells
+    × (l.agreed ≡ lesser l.low (least (takes l.voted l.faults.mask (λ k. get_or l.frames k 0) l.c) (λ k. agreement (heard_word l.faults.sizes l.faults.mask l.faults.bytes.now (λ j. get_or l.words j 0) (suc l.c) k) l.nodes) l.i))

@@ -1,6 +1,6 @@
 -- `row_vote::step::frames_before` meets its contract: the first j frames are found.
 use mathlib.Core.Path.{◌≡◌, ap, ◌∙◌}
-use Prim.Native.Nat.{ℕ, ◌-◌}
+use Prim.Native.Nat.{ℕ}
 use native.Mathlib.Omega.{arith}
 use native.Mathlib.Nat.{not-suc-le-zero}
 use native.Mathlib.Numerals.{add-one}
@@ -26,7 +26,7 @@ loop-j-preserved c =
       search rules,
       search rules,
       λ i m. split (eqb i l.j)
-          (λ t. rw (eqb-true i l.j t, here) (f.ensures.0 ∙ ap (λ (k : ℕ). frame_before a.frames (get_or a.counters.now k 0)) (add-one l.j), omega (arith, f.ensures.1, q.3)))
+          (λ t. rw (eqb-true i l.j t, here) (f.ensures.0 ∙ ap (λ (k : ℕ). frame_before a.frames (get_or a.counters.now k 0)) (add-one l.j), omega (arith, f.ensures.1, q.2)))
           (λ t. rw (get_or-set_other l.all l.j i f.result 0 (eqb-false i l.j t)) (l.invariant.2 i (omega (arith, eqb-false i l.j t)))),
     )
 

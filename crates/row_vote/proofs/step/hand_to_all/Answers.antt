@@ -1,6 +1,6 @@
 -- `row_vote::step::hand_to_all` meets its contract: the first j nodes have the value.
 use mathlib.Core.Path.{refl, ap, ◌∙◌}
-use Prim.Native.Nat.{ℕ, suc, ◌-◌}
+use Prim.Native.Nat.{ℕ, suc}
 use native.Mathlib.Omega.{arith}
 use native.Mathlib.Numerals.{add-one}
 use borrow.Author.Rules.{rules}
@@ -48,9 +48,6 @@ loop-j-preserved c =
         rw w.cells-is (put-left place (column_apart a.c) (is_good a.mask) (λ k. a.x) a.cells.now l.j i.4 (good-if a.mask l.j c.is_bad.ensures (ap not w.if-not-is_bad.false))),
       )
     ]
-
-pub shape_of-cells : goal.shape_of-cells
-shape_of-cells c = c.loop-j.invariant.4.size
 
 pub returns : goal.returns
 returns c =

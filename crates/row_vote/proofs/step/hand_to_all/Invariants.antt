@@ -1,5 +1,5 @@
 use mathlib.Core.Path.{◌≡◌}
-use Prim.Native.Nat.{suc, ◌-◌, ◌≤◌, ◌<◌}
+use Prim.Native.Nat.{suc, ◌≤◌, ◌<◌}
 use lib.ListN.{length}
 use Rattle.plan.specs.Limits.{most_nodes, most_cells}
 use Rattle.rows.specs.Code.{word_count, word_place}
@@ -9,6 +9,3 @@ use Rattle.row_vote.proofs.step.hand_to_all.Given as goal
 
 abbrev pub invariant-loop-j : goal.invariant-loop-j
 invariant-loop-j l = (l.j ≤ l.nodes) × (l.nodes ≤ most_nodes) × (l.c < most_cells) × (length l.initial.cells ≡ word_count) × Put (λ i. word_place (suc i) l.c) (is_good l.mask) (λ i. l.x) l.j l.initial.cells l.cells
-
-abbrev pub decreases-loop-j : goal.decreases-loop-j
-decreases-loop-j l = l.nodes - l.j

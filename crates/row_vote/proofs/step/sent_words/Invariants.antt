@@ -1,6 +1,6 @@
+use Rattle.std.specs.Prelude.{Some}
 use mathlib.Core.Path.{◌≡◌}
-use mathlib.Core.Option.{some}
-use Prim.Native.Nat.{◌-◌, ◌≤◌, ◌<◌}
+use Prim.Native.Nat.{◌≤◌, ◌<◌}
 use lib.ListN.{length, get_or}
 use Rattle.plan.specs.Limits.{most_nodes, most_cells}
 use Rattle.ballot.specs.Code.{Told}
@@ -10,7 +10,4 @@ use Rattle.row_vote.proofs.step.sent_words.Given as goal
 
 abbrev pub invariant-loop-j : goal.invariant-loop-j
 invariant-loop-j l = (l.j ≤ l.nodes) × (l.nodes ≤ most_nodes) × (l.c < most_cells) × (length l.cells ≡ word_count) × (length l.words ≡ most_nodes)
-    × Told (λ i. some (sent_word l.voted (λ k. get_or l.sent k 0) l.cells l.c i)) l.j l.words
-
-abbrev pub decreases-loop-j : goal.decreases-loop-j
-decreases-loop-j l = l.nodes - l.j
+    × Told (λ i. Some (sent_word l.voted (λ k. get_or l.sent k 0) l.cells l.c i)) l.j l.words

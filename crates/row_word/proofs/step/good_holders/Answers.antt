@@ -1,6 +1,6 @@
 -- `row_word::step::good_holders` meets its contract: with no bad node all words are good ones', else those of the first j nodes are counted.
 use mathlib.Core.Path.{◌≡◌, ap, ◌∙◌}
-use Prim.Native.Nat.{ℕ, ◌-◌}
+use Prim.Native.Nat.{ℕ}
 use native.Mathlib.Omega.{arith}
 use lib.ListN.{get_or}
 use borrow.Author.Rules.{rules}

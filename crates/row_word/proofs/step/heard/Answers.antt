@@ -11,12 +11,12 @@ pub heard-requires : goal.heard-requires
 heard-requires c =
     let a = c.args in
     let p = c.requires in (
-      p.0.nodes,
-      omega (arith, p.3, p.0.cells),
-      omega (arith, c.message_at-at.ensures, zero-mul (fault_size a.s), p.0.cells, bins-most a.s p.0 a.i (omega (arith, p.2, p.0.nodes))),
-      omega (arith, c.part_size.ensures, part-most a.s p.0),
-      λ j l t. rw (bins-apart a.s a.i c.message_at-at.ensures c.part_size.ensures j) (omega (arith, message-room a.s j a.i p.2, p.1 j l t, p.3)),
+      a.faults.now.small.nodes,
+      omega (arith, p.1, a.faults.now.small.cells),
+      omega (arith, c.message_at-at.ensures, zero-mul (fault_size a.faults.now.sizes), a.faults.now.small.cells, bins-most a.faults.now.sizes a.faults.now.small a.i (omega (arith, p.0, a.faults.now.small.nodes))),
+      omega (arith, c.part_size.ensures, part-most a.faults.now.sizes a.faults.now.small),
+      λ j l t. rw (bins-apart a.faults.now.sizes a.i c.message_at-at.ensures c.part_size.ensures j) (omega (arith, message-room a.faults.now.sizes j a.i p.0, a.faults.now.parts j l t, p.1)),
     )
 
 pub returns : goal.returns
-returns c = let a = c.args in heard-apart a.s a.i c.message_at-at.ensures c.part_size.ensures a.mask a.faults.now _ a.w c.heard.ensures
+returns c = let a = c.args in heard-apart a.faults.now.sizes a.i c.message_at-at.ensures c.part_size.ensures a.faults.now.mask a.faults.now.bytes.now _ a.w c.heard.ensures

@@ -1,5 +1,5 @@
 use mathlib.Core.Path.{◌≡◌}
-use Prim.Native.Nat.{◌-◌, ◌≤◌}
+use Prim.Native.Nat.{◌≤◌}
 use lib.ListN.{get_or}
 use Rattle.array.specs.Code.{placed}
 use Rattle.run_line.specs.Line.{plane_values_at}
@@ -8,6 +8,3 @@ use Rattle.run_line.proofs.step.put_values.Given as goal
 
 abbrev pub invariant-loop-a : goal.invariant-loop-a
 invariant-loop-a l = (l.a ≤ l.count) × (l.out ≡ placed l.initial.out plane_values_at (plane_columns (λ k. get_or l.values k 0) l.a))
-
-abbrev pub decreases-loop-a : goal.decreases-loop-a
-decreases-loop-a l = l.count - l.a

@@ -1,5 +1,5 @@
 use mathlib.Core.Path.{◌≡◌}
-use Prim.Native.Nat.{◌-◌, ◌≤◌}
+use Prim.Native.Nat.{◌≤◌}
 use lib.ListN.{length}
 use Rattle.plan.specs.Limits.{most_sensors}
 use Rattle.run_line.proofs.ReadingLaws.{Front}
@@ -7,6 +7,3 @@ use Rattle.run_line.proofs.step.read_patterns.Given as goal
 
 abbrev pub invariant-loop-k : goal.invariant-loop-k
 invariant-loop-k l = (length l.patterns ≡ most_sensors) × (l.k ≤ l.count) × Front l.line l.count l.patterns l.k
-
-abbrev pub decreases-loop-k : goal.decreases-loop-k
-decreases-loop-k l = l.count - l.k

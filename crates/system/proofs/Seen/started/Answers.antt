@@ -1,7 +1,7 @@
 -- `Seen::started` meets its contract: each actuator's entry is its cell's initial pattern.
 use mathlib.Core.Path.{◌≡◌, refl, sym, ap, ◌∙◌}
 use mathlib.Core.List.{List}
-use Prim.Native.Nat.{ℕ, ◌-◌}
+use Prim.Native.Nat.{ℕ}
 use lib.ListN.{replicate, set}
 use native.Mathlib.Omega.{arith}
 use borrow.Author.Rules.{rules}

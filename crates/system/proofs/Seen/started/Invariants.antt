@@ -1,5 +1,5 @@
 use mathlib.Core.Path.{◌≡◌}
-use Prim.Native.Nat.{◌-◌, ◌≤◌, ℕ}
+use Prim.Native.Nat.{◌≤◌, ℕ}
 use lib.ListN.{replicate, get_or}
 use Rattle.array.specs.Index.{fill}
 use Rattle.plan.specs.Limits.{most_actuators}
@@ -12,6 +12,3 @@ entry initial table a = get_or initial (get_or table a 0) 0
 
 abbrev pub invariant-loop-a : goal.invariant-loop-a
 invariant-loop-a l = (l.a ≤ l.actuators) × (l.handed ≡ fill (entry l.initial' l.table) l.a (replicate most_actuators 0))
-
-abbrev pub decreases-loop-a : goal.decreases-loop-a
-decreases-loop-a l = l.actuators - l.a

@@ -1,13 +1,25 @@
-use mathlib.Core.Path.{◌∙◌}
-use Rattle.plan_period.proofs.AnswerLaws.{accepted-period, accepted-of-period, refused-of-period}
-use Rattle.system.proofs.PowerOnLaws.{power_on-refused, power_on-done}
+-- `System::power_on` meets its contract: the record of an accepted plan, and a refusal for every other.
+use mathlib.Core.Path.{sym, ap, ◌∙◌}
+use mathlib.Core.List.{[]}
+use Rattle.std.specs.Prelude.{Ok}
+use Rattle.answer.proofs.TestLaws.{handed-on, given-later, given-none}
+use Rattle.plan_period.specs.Answers.{plan_tests}
+use Rattle.plan_period.proofs.AnswerLaws.{accepted-of-period, period-is, call-refused}
+use Rattle.system.specs.System.{power_on, system_power_on_answer}
 use Rattle.system.proofs.System.power_on.Goals as goal
 
-pub returns-then-period-eq0 : goal.returns-then-period-eq0
-returns-then-period-eq0 c = power_on-refused c.args.plan c.zero-system.result (refused-of-period c.args.plan c.accepted_period-period.ensures c.if-period-eq0.true) c.zero-system.ensures
+pub returns-in_err-period : goal.returns-in_err-period
+unfolding system_power_on_answer plan_tests
+returns-in_err-period c =
+    handed-on c.from_residual.result c.from_residual.ensures.1
+    ∙ sym (call-refused c.args.plan (sym c.recovery_period.ensures ∙ c.in_err-period.was) [] (power_on c.args.plan))
 
-pub started-system-requires : goal.started-system-requires
-started-system-requires c = let a = accepted-of-period c.args.plan c.accepted_period-period.ensures c.if-period-eq0.false in (a, c.accepted_period-period.ensures ∙ accepted-period c.args.plan a)
+pub started-requires : goal.started-requires
+started-requires c = let found = sym c.recovery_period.ensures ∙ c.in_ok-period.was in (accepted-of-period c.args.plan found, period-is c.args.plan found)
 
 pub returns : goal.returns
-returns c = power_on-done c.args.plan c.started-system.result (accepted-of-period c.args.plan c.accepted_period-period.ensures c.if-period-eq0.false) c.started-system.ensures
+unfolding system_power_on_answer plan_tests
+returns c =
+    let p = c.args.plan in
+    let yes = accepted-of-period p (sym c.recovery_period.ensures ∙ c.in_ok-period.was) in
+    ap Ok c.started.ensures ∙ sym (given-later _ [] (power_on p) yes ∙ given-none (power_on p))

@@ -1,7 +1,7 @@
 use Rattle.system.proofs.PowerOnLaws.{power_on-is}
 use mathlib.Core.Path.{◌≡◌, refl, sym, ap, ◌∙◌}
 use mathlib.Core.List.{List}
-use Prim.Native.Nat.{ℕ, ◌-◌}
+use Prim.Native.Nat.{ℕ}
 use lib.ListN.{set}
 use native.Mathlib.Omega.{arith}
 use borrow.Author.Rules.{rules}

@@ -1,5 +1,5 @@
 use mathlib.Core.Path.{◌≡◌}
-use Prim.Native.Nat.{◌-◌, ◌≤◌}
+use Prim.Native.Nat.{◌≤◌}
 use Rattle.array.specs.Index.{fill}
 use Rattle.system.specs.System.{zero_system}
 use Rattle.system.proofs.System.started.Given as goal
@@ -9,6 +9,3 @@ invariant-loop-i l = (l.i ≤ l.nodes)
     × (l.system.memories ≡ fill (λ k. l.memory) l.i zero_system.memories)
     × (l.system.good ≡ fill (λ k. l.full) l.i zero_system.good)
     × (l.system.seen ≡ l.initial.system.seen)
-
-abbrev pub decreases-loop-i : goal.decreases-loop-i
-decreases-loop-i l = l.nodes - l.i

@@ -33,7 +33,7 @@ pub overflow_add-at : goal.overflow_add-at
 overflow_add-at c = omega arith
 
 pub loop-c-preserved : goal.loop-c-preserved
-loop-c-preserved c = (search rules, search rules, stored_next _ _ _ c.loop-c.invariant.2 c.word.ensures)
+loop-c-preserved c = (search rules, search rules, stored_next _ _ _ c.loop-c.invariant.2 c.entry_or.ensures)
 
 pub shape_of-cells : goal.shape_of-cells
 shape_of-cells c = c.loop-c.invariant.1 ∙ sym c.requires.1

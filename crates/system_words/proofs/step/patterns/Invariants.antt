@@ -1,5 +1,5 @@
 use mathlib.Core.Path.{◌≡◌}
-use Prim.Native.Nat.{◌+◌, ◌-◌, ◌≤◌}
+use Prim.Native.Nat.{◌+◌, ◌≤◌}
 use lib.ListN.{length, get_or}
 use Rattle.array.specs.Index.{fill}
 use Rattle.plan.specs.Limits.{most_cells}
@@ -7,6 +7,3 @@ use Rattle.system_words.proofs.step.patterns.Given as goal
 
 abbrev pub invariant-loop-c : goal.invariant-loop-c
 invariant-loop-c l = (l.c ≤ most_cells) × (length l.cells ≡ most_cells) × (l.cells ≡ fill (λ d. get_or l.words (l.at + d) 0) l.c l.initial.cells)
-
-abbrev pub decreases-loop-c : goal.decreases-loop-c
-decreases-loop-c l = most_cells - l.c

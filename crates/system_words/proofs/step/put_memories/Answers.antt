@@ -1,6 +1,5 @@
 -- `system_words::step::put_memories` meets its contract: the words of the first j memories are stored.
 use mathlib.Core.Path.{◌≡◌, sym, ap, ◌∙◌}
-use Prim.Native.Nat.{◌-◌}
 use native.Mathlib.Omega.{arith}
 use lib.ListN.{length}
 use borrow.Author.Rules.{rules}

@@ -1,6 +1,5 @@
 -- `system_words::step::put_seen` meets its contract: the first k values are stored.
 use mathlib.Core.Path.{◌≡◌, sym}
-use Prim.Native.Nat.{◌-◌}
 use native.Mathlib.Omega.{arith}
 use borrow.Author.Rules.{rules}
 use Rattle.plan.specs.Limits.{most_actuators}

@@ -1,6 +1,5 @@
 -- `system_words::step::put_system` meets its contract: the first j counts are stored behind the memories, and behind them what is seen.
 use mathlib.Core.Path.{◌≡◌, sym, ◌∙◌}
-use Prim.Native.Nat.{◌-◌}
 use native.Mathlib.Omega.{arith}
 use borrow.Author.Rules.{rules}
 use Rattle.system_words.proofs.RecordLaws.{stored-none, stored_more, stored-kept, system-put}

@@ -1,6 +1,5 @@
 -- `system_words::step::system` meets its contract: the first j memories and counts are read, then what is seen.
 use mathlib.Core.Path.{sym}
-use Prim.Native.Nat.{◌-◌}
 use native.Mathlib.Omega.{arith}
 use borrow.Author.Rules.{rules}
 use Rattle.array.proofs.PlacesLaws.{fill_none}
@@ -13,7 +12,7 @@ loop-j-init c = (search rules, sym (fill_none _ _), sym (fill_none _ _))
 
 pub loop-j-preserved : goal.loop-j-preserved
 loop-j-preserved c = let inv = c.loop-j.invariant in
-    (search rules, stored_next _ _ _ inv.1 c.memory-m.ensures, stored_next _ _ _ inv.2 (good-read _ _ c.word.ensures c.at_most.ensures))
+    (search rules, stored_next _ _ _ inv.1 c.memory-m.ensures, stored_next _ _ _ inv.2 (good-read _ _ c.entry_or.ensures c.at_most.ensures))
 
 pub returns : goal.returns
 returns c = let inv = c.loop-j.invariant in

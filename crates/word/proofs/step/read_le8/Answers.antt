@@ -1,6 +1,7 @@
--- `word::step::read_le8` meets its contract: the second four bytes stand behind the first.
-use Rattle.word.proofs.WordLaws.{word_at-two}
+-- `word::step::read_le8` meets its contract.
+use mathlib.Core.Path.{◌∙◌}
+use Rattle.word.proofs.WordLaws.{word-eight}
 use Rattle.word.proofs.step.read_le8.Goals as goal
 
 pub returns : goal.returns
-returns c = let a = c.args in rw (c.read_le4.ensures, c.read_le4-2.ensures) (word_at-two a.s.now a.i)
+returns c = c.from_le_bytes.ensures ∙ word-eight c.args.s.now c.args.i

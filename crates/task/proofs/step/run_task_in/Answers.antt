@@ -1,5 +1,0 @@
--- `task::step::run_task_in` meets its contract: the value is stored in the target.
-use Rattle.task.proofs.step.run_task_in.Goals as goal
-
-pub returns : goal.returns
-returns c = rw c.op_value-v.ensures
