@@ -1,4 +1,4 @@
-// Big-endian words of two and eight bytes, each of which requires that the word's place lies in the slice; a bit of a word; an entry of a slice.
+// Big-endian words of two and eight bytes, each of which requires that the word's place lies in the slice; a bit of a word; an entry of a slice; the copy of words.
 ghost use Rattle.std.specs.Prelude.{◌≡◌, ◌++◌, ◌+◌, ◌*◌, ◌<◌, ◌≤◌, ◌^◌, length, take, drop, get_or};
 ghost use Rattle.array.specs.Word.{be, bytes};
 ghost use Rattle.array.specs.Bit.{bit};
@@ -53,4 +53,15 @@ pub fn entry_or<T: Copy>(xs: &[T], i: usize, past: T) -> T
     ensures { result ≡ get_or xs.now i past }
 {
     xs.get(i).copied().unwrap_or(past)
+}
+
+// Words copied to a place that is as long. std's `copy_from_slice` is compiled to a call of memmove, and the library for C may need memcpy and memset alone.
+pub fn copy(from: &[u64], to: &mut [u64])
+    requires { length from.now ≡ length to.old }
+    ensures { to.new ≡ from.now }
+{
+    let n = from.len();
+    for k in 0..n {
+        to[k] = from[k];
+    }
 }

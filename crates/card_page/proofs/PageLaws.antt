@@ -10,7 +10,7 @@ use Rattle.array.specs.Bit.{bit}
 use Rattle.array.specs.Word.{bytes}
 use Rattle.array.proofs.TestLaws.{split}
 use Rattle.card_page.specs.declared.CardState.{CardState}
-use Rattle.card_page.specs.Page.{mask_at, two_bits, named_bits, phase_of, timer_due, bins_full, interrupt, flag_byte, page, page_byte, with_mask, with_cleared, written_at}
+use Rattle.card_page.specs.Page.{mask_at, two_bits, named_bits, phase_of, timer_due, bins_full, interrupt, flag_byte, page, page_byte, with_flags, as_counts, with_mask, with_cleared, written_at}
 
 -- ---- what counts of a byte
 
@@ -173,6 +173,10 @@ module _ (s : CardState) where
       shown = rw (flag-due, flag-full, flag-line, named-first s.mask, named-second s.mask) interrupt-is
 
   -- ---- what a host writes
+
+  pub mask-set : (v : ℕ) {k : CardState} {m : ℕ} → k ≡ as_counts s → m ≡ named_bits v → ◌≡◌ {A = CardState} (record { memory = k.memory; phase = k.phase; flags = k.flags; mask = m }) (with_mask s v)
+  unfolding with_mask as_counts with_flags
+  mask-set v e f = rw (e, f)
 
   pub written-mask : {at : ℕ} (v : ℕ) {r : CardState} → at ≡ mask_at → r ≡ with_mask s v → r ≡ written_at s at v
   unfolding written_at

@@ -100,12 +100,11 @@ pub fn read(state: CardState, at: usize) -> u8
 pub fn with_flags(state: CardState, due: bool, full: bool) -> CardState
     ensures { result ≡ with_flags state due full }
 {
-    let memory = state.memory;
     CardState {
-        memory,
         phase: phase(state).number(),
         flags: two(due, full),
         mask: named(state.mask),
+        ..state
     }
 }
 
@@ -119,12 +118,9 @@ pub fn write(state: CardState, at: usize, value: u8) -> CardState
     ensures { result ≡ written_at state at value }
 {
     if at == MASK {
-        let memory = state.memory;
         return CardState {
-            memory,
-            phase: phase(state).number(),
-            flags: named(state.flags),
             mask: named(value),
+            ..counted(state)
         };
     }
     let keep_due = !bit_0(value);

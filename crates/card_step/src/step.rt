@@ -92,7 +92,6 @@ pub fn tick(
     CardState {
         memory,
         phase: next.number(),
-        flags: flagged.flags,
-        mask: flagged.mask,
+        ..flagged
     }
 }

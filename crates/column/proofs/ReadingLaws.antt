@@ -1,6 +1,6 @@
 -- Reading a column: where the blanks end, which part of the line it is, how many digits it has.
 use Rattle.std.specs.Prelude.{None, Some}
-use Rattle.std.proofs.Common.{◌≡◌, ℕ, ◌+◌, ◌-◌, ◌^◌, ◌<◌, ◌≤◌, cond, not, eqb, leb, ◌⊎◌, List, [], ◌∷◌, length, get_or, take, drop, sym, ap, ◌∙◌, inl, inr, le_trans, zero-add, add-one, arith, length-drop, drop_of_length-le, length-take, length-take-le, take_all, take-add, drop_at, lt-ltb, eq-eqb, ne_eqb, leb-true}
+use Rattle.std.proofs.Common.{◌≡◌, ℕ, ◌+◌, ◌-◌, ◌^◌, ◌<◌, ◌≤◌, cond, not, eqb, leb, ltb, min, List, [], ◌∷◌, length, get_or, take, drop, sym, ap, ◌∙◌, le_trans, zero-add, add-one, arith, length-drop, drop_of_length-le, length-take, length-take-le, take_all, take-add, drop_at, lt-ltb, eq-eqb, ne_eqb, leb-true, ltb-true, ltb-false}
 use mathlib.Core.Bool.{or-true}
 use native.Mathlib.Nat.{min-le_left}
 use lib.Seq.{take-length, slice, slice-cons}
@@ -27,12 +27,15 @@ slice-past : (s : List ℕ) (f t : ℕ) → length s ≤ t → slice f t s ≡ s
 slice-past s f t l = rw (take_all t s l, take-length s)
 
 -- what lies in the line of the part f..t, as the code takes its end
-pub within-line :
-    (s : List ℕ) (f t e : ℕ) →
-    ((t < length s) × (e ≡ t)) ⊎ ((length s ≤ t) × (e ≡ length s)) →
-    (e ≤ length s) × (slice f t s ≡ slice f e s)
-within-line s f t e (inl h) = (omega arith, ap (λ (k : ℕ). slice f k s) (sym h.1))
-within-line s f t e (inr h) = (omega arith, slice-past s f t h.0 ∙ ap (λ (k : ℕ). slice f k s) (sym h.1))
+pub within-line : (s : List ℕ) (f t e : ℕ) → e ≡ min t (length s) → (e ≤ length s) × (slice f t s ≡ slice f e s)
+within-line s f t e h =
+    split (ltb t (length s))
+    (λ x.
+    let k : e ≡ t = omega (arith, h, ltb-true t (length s) x) in
+    (omega (arith, h), ap (λ (n : ℕ). slice f n s) (sym k)))
+    (λ x.
+    let k : e ≡ length s = omega (arith, h, ltb-false t (length s) x) in
+    (omega (arith, h), slice-past s f t (ltb-false t (length s) x) ∙ ap (λ (n : ℕ). slice f n s) (sym k)))
 
 pub slice-behind : (s : List ℕ) (f t : ℕ) → t ≤ f → slice f t s ≡ []
 slice-behind s f t l = drop_of_length-le (take t s) {i = f} (le_trans (rw length-take (min-le_left t (length s))) l)

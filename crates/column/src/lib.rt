@@ -14,7 +14,7 @@ pub fn digits<'a>(line: &'a [u8], from: usize, to: usize) -> &'a [u8]
     ensures { result.now ≡ drop_blanks (slice from to line.now) }
 {
     let len = line.len();
-    let end = if to < len { to } else { len };
+    let end = to.min(len);
     if end <= from {
         return &line[end..end];
     }

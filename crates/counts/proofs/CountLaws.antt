@@ -2,8 +2,7 @@
 use mathlib.Core.Path.{◌≡◌, sym, ◌∙◌}
 use mathlib.Core.Bool.{Bool, true, false, not, ◌&&◌}
 use mathlib.Core.List.{List}
-use Prim.Native.Nat.{ℕ, ◌+◌, ◌^◌, ◌≤◌, ◌<◌}
-use native.Mathlib.Omega.{arith}
+use Prim.Native.Nat.{ℕ, ◌+◌, ◌^◌, ◌<◌, min}
 use lib.Dec.{eqb, leb, ltb}
 use lib.ListN.{get_or, set}
 use borrow.Author.Tests.{lt-leb, le-leb, ltb-true, ltb-false}
@@ -24,13 +23,9 @@ module _ (period count : ℕ) {bad : Bool} where
   unfolding count_after
   count-bad e = rw e
 
-  pub count-more : bad ≡ false → count < period → count + 1 ≡ count_after period bad count
+  pub count-kept : {r : ℕ} → bad ≡ false → r ≡ min period (count + 1) → r ≡ count_after period bad count
   unfolding count_after
-  count-more e l = rw e (omega arith)
-
-  pub count-full : bad ≡ false → period ≤ count → period ≡ count_after period bad count
-  unfolding count_after
-  count-full e l = rw e (omega arith)
+  count-kept e h = rw (e, h)
 
 -- ---- the good counts
 

@@ -49,10 +49,7 @@ fn count_after(bad: bool, count: u16, period: usize) -> u16
     if bad {
         return 0;
     }
-    if (count as usize) < period {
-        return count + 1;
-    }
-    period as u16
+    period.min(count as usize + 1) as u16
 }
 
 // The good counts after a frame with this mask.

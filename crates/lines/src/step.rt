@@ -37,10 +37,7 @@ pub fn part_end(at: usize, len: usize, size: usize) -> usize
     requires { at ≤ len }
     ensures { result ≡ min (at + size) len }
 {
-    if len - at < size {
-        return len;
-    }
-    at + size
+    at + size.min(len - at)
 }
 
 // A frame on rows, and its line. The contract speaks for every byte that the bad nodes' parts hold.

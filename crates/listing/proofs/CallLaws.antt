@@ -6,7 +6,6 @@ use mathlib.Core.Bool.{Bool, true, false, cond, ◌&&◌, ◌||◌}
 use mathlib.Core.List.{List, [], append-nil}
 use Prim.Native.Nat.{ℕ, ◌+◌, ◌-◌, ◌≤◌, ◌<◌, min}
 use native.Mathlib.Omega.{arith}
-use native.Mathlib.Nat.{min-eq_left, min-eq_right}
 use lib.Dec.{eqb, leb}
 use lib.ListN.{length, take, drop, take-append-drop, drop_of_length-le}
 use lib.Seq.{length-take-le}
@@ -29,14 +28,6 @@ use Rattle.lines.specs.Run.{run_after, next_numbers}
 use Rattle.lines.specs.Code.{step_answer, step_place, taken_or, line_taken}
 use Rattle.lines.proofs.StepLaws.{empty-of-length, nothing-numbers, taken_none, taken-some, line-in-time}
 use Rattle.listing.specs.Answers.{line_test, next_tests, taken, run_taken, next_answer, next_run, place_taken, next_place}
-
--- ---- the line that is refused
-
-pub min-below : (a b : ℕ) → a < b → min a b ≡ a
-min-below a b l = min-eq_left (omega arith)
-
-pub min-above : (a b : ℕ) → b ≤ a → min a b ≡ b
-min-above a b l = min-eq_right l
 
 -- ---- the next line
 

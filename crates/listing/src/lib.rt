@@ -18,10 +18,7 @@ use lines::Run;
 fn refused_line(frame: usize) -> Refusal
     ensures { result ≡ RunLine (min frame most_run_lines + 1) }
 {
-    if frame < run_line::step::LINES {
-        return Refusal::RunLine(frame + 1);
-    }
-    Refusal::RunLine(run_line::step::LINES + 1)
+    Refusal::RunLine(frame.min(run_line::step::LINES) + 1)
 }
 
 // The next line of what is left, by a state that 7 and 9 do not refuse.
@@ -63,7 +60,7 @@ pub fn next(run: &mut Run, rest: &[u8], out: &mut [u8]) -> Result<usize, Refusal
     if out.len() < size {
         return Err(Refusal::WrongLength);
     }
-    if rest.len() == 0 {
+    if rest.is_empty() {
         return Ok(0);
     }
     next_line(run, period, rest, &mut out[0..size])

@@ -16,7 +16,7 @@ pub fn numeral(d: &[u8]) -> Option<u64>
     if 20 < n {
         return None;
     }
-    let most = if n < 20 { n } else { 19 };
+    let most = n.min(19);
     let mut v: u64 = 0;
     // In steps of eight, as long as eight are left: `chunks_exact` would have to be taken apart again for the digits behind them.
     let mut i: usize = 0;

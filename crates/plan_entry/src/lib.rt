@@ -47,13 +47,8 @@ fn is_zero_take(op: Op) -> bool
     ensures { result ≡ is_zero_take op }
 {
     match op {
-        Op::Take(s) => s == 0,
-        Op::Sum(_, _) => false,
-        Op::Diff(_, _) => false,
-        Op::Scale(_, _) => false,
-        Op::Limit(_, _, _) => false,
-        Op::Wind(_, _) => false,
-        Op::Cam(_) => false,
+        Op::Take(sensor) => sensor == 0,
+        _ => false,
     }
 }
 

@@ -1,15 +1,13 @@
 -- What the reader's tests on one line say of the definitions.
 use Rattle.std.specs.Prelude.{Option, None, Some}
 use mathlib.Core.Path.{◌≡◌, refl, sym, ◌∙◌}
-use mathlib.Core.Bool.{true, false, cond, ◌&&◌}
+use mathlib.Core.Bool.{cond, ◌&&◌}
 use mathlib.Core.List.{List, [], ◌∷◌}
-use Prim.Native.Nat.{ℕ, ◌+◌, ◌-◌, ◌≤◌, ◌<◌}
-use native.Mathlib.Omega.{arith}
-use lib.Dec.{eqb, ltb}
+use Prim.Native.Nat.{ℕ}
+use lib.Dec.{eqb}
 use lib.ListN.{length, get_or}
 use lib.Seq.{slice}
-use borrow.Author.Tests.{eq-eqb, ne_eqb, eqb-true, eqb-false, lt-ltb, le-ltb, ltb-true, ltb-false}
-use Rattle.array.proofs.TestLaws.{split}
+use borrow.Author.Tests.{eq-eqb, ne_eqb}
 use Rattle.column.specs.Column.{number_shown}
 use Rattle.column.specs.Row.{and_then, numbers_from, numbers_shown}
 use Rattle.plan_grammar.specs.Line.{widths}
@@ -65,25 +63,3 @@ module _ (s : List ℕ) where
       Some f ≡ number_shown (slice 36 56 s) →
       Some (a ∷ b ∷ c ∷ d ∷ e ∷ f ∷ []) ≡ numbers_shown widths s
   whole-line l n p₁ p₂ p₃ p₄ p₅ p₆ = sym (columns ∙ rw (← p₁, ← p₂, ← p₃, ← p₄, ← p₅, ← p₆, eq-eqb (length s) 57 l, eq-eqb (get_or s 56 0) 10 n))
-
--- ---- the number after another
-
-pub follows-less : (a b : ℕ) → a < b → eqb (b - a) 1 ≡ eqb (a + 1) b
-follows-less a b l =
-    split (eqb (b - a) 1)
-    (λ t. t ∙ sym (eq-eqb (a + 1) b (omega (arith, eqb-true (b - a) 1 t))))
-    (λ t. t ∙ sym (ne_eqb (a + 1) b (λ e. eqb-false (b - a) 1 t (omega arith))))
-
-pub follows-not : (a b : ℕ) → b ≤ a → false ≡ eqb (a + 1) b
-follows-not a b l = sym (ne_eqb (a + 1) b (λ e. omega arith))
-
--- ---- the first 64 lines after the cells
-
-pub room-before : (cells j : ℕ) → j < cells → true ≡ ltb j (cells + 64)
-room-before cells j l = sym (lt-ltb j (cells + 64) (omega arith))
-
-pub room_after : (cells j : ℕ) → cells ≤ j → ltb (j - cells) 64 ≡ ltb j (cells + 64)
-room_after cells j l =
-    split (ltb (j - cells) 64)
-    (λ t. t ∙ sym (lt-ltb j (cells + 64) (omega (arith, ltb-true (j - cells) 64 t))))
-    (λ t. t ∙ sym (le-ltb j (cells + 64) (omega (arith, ltb-false (j - cells) 64 t))))

@@ -153,10 +153,7 @@ fn after_cells(h: Line, j: usize) -> bool
 fn room_for_task(cells: usize, j: usize) -> bool
     ensures { result ≡ ltb j (cells + most_tasks) }
 {
-    if j < cells {
-        return true;
-    }
-    j - cells < Plan::TASKS
+    j.saturating_sub(cells) < Plan::TASKS
 }
 
 fn task_in_order(h: Line, j: usize, prev: Line, l: Line) -> bool
@@ -183,10 +180,7 @@ fn vote_in_order(h: Line, j: usize, prev: Line, l: Line) -> bool
 fn follows(a: usize, b: usize) -> bool
     ensures { result ≡ eqb (a + 1) b }
 {
-    if a < b {
-        return b - a == 1;
-    }
-    false
+    b.checked_sub(a) == Some(1)
 }
 
 fn actuator_in_order(h: Line, j: usize, prev: Line, l: Line) -> bool

@@ -16,10 +16,7 @@ pub fn recovery_period(plan: Plan) -> Result<usize, Refusal>
     if !plan_form::well_formed(plan) {
         return Err(Refusal::InvalidPlan);
     }
-    let Some(period) = step::period(plan) else {
-        return Err(Refusal::InvalidPlan);
-    };
-    Ok(period)
+    step::period(plan).ok_or(Refusal::InvalidPlan)
 }
 
 pub fn check(plan: Plan) -> Result<(), Refusal>

@@ -89,9 +89,7 @@ fn read_lines(text: &[u8], h: Line) -> Result<PlanRead, Refusal>
     if !plan_line::is_last(h, prev) {
         return Err(Refusal::OutOfOrder(lines + 1));
     }
-    let Some(period) = plan_period::step::period(plan) else {
-        return Err(Refusal::Unrecoverable);
-    };
+    let period = plan_period::step::period(plan).ok_or(Refusal::Unrecoverable)?;
     Ok(PlanRead { plan, period })
 }
 

@@ -118,7 +118,7 @@ fn after(frame: usize, frames: usize) -> usize
     requires { frame < frames }
     ensures { (result < frames) × ((frame + 1 < frames → result ≡ frame + 1) × (frames ≤ frame + 1 → result ≡ 0)) }
 {
-    if frame + 1 < frames { frame + 1 } else { 0 }
+    (frame + 1) % frames
 }
 
 // The votes of the frame, and the frame is run.

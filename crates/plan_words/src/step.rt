@@ -30,17 +30,6 @@ const ACTUATORS: usize = VOTES + Plan::FRAMES;
 
 pub const SIZE: usize = ACTUATORS + Plan::ACTUATORS;
 
-// Words copied to a place that is as long. Here std's `copy_from_slice` is compiled to a call of memmove, and the library for C may need memcpy and memset alone.
-fn copy(from: &[u64], to: &mut [u64])
-    requires { length from.now ≡ length to.old }
-    ensures { to.new ≡ from.now }
-{
-    let n = from.len();
-    for k in 0..n {
-        to[k] = from[k];
-    }
-}
-
 // ---- from words to a plan
 
 // The numbers of task k.
@@ -182,7 +171,7 @@ pub fn plan(words: &[u64]) -> Plan
     let mut initial = [0u64; Plan::CELLS];
     let mut voted = [false; Plan::VOTES];
     let mut actuator_cell = [0usize; Plan::ACTUATORS];
-    copy(&words[INITIAL..TASKS], &mut initial);
+    array::step::copy(&words[INITIAL..TASKS], &mut initial);
     votes_in(words, &mut voted);
     actuators_in(words, &mut actuator_cell);
     let unused = Task {
@@ -285,7 +274,7 @@ pub fn put(plan: Plan, words: &mut [u64])
     ensures { words.new ≡ plan_words plan }
 {
     put_counts(plan, &mut words[0..INITIAL]);
-    copy(&plan.initial, &mut words[INITIAL..TASKS]);
+    array::step::copy(&plan.initial, &mut words[INITIAL..TASKS]);
     put_tasks(plan, &mut words[TASKS..VOTES]);
     put_votes(&plan.voted, &mut words[VOTES..ACTUATORS]);
     put_actuators(&plan.actuator_cell, &mut words[ACTUATORS..SIZE]);

@@ -1,5 +1,5 @@
 // The steps on rows: a record taken apart into rows and put together again, and the rows that equal the first.
-ghost use Rattle.std.specs.Prelude.{◌≡◌, ◌+◌, ◌<◌, ◌≤◌, length};
+ghost use Rattle.std.specs.Prelude.{◌≡◌, ◌+◌, ◌<◌, ◌≤◌};
 ghost use Rattle.array.specs.Index.{how_many};
 ghost use Rattle.plan.specs.Limits.{most_nodes, most_cells};
 ghost use Rattle.rows.specs.Code.{row_count, word_place, memory_in, Rows, Stored, same_row};
@@ -17,17 +17,6 @@ pub fn word_place(r: usize, c: usize) -> usize
     Plan::CELLS * r + c
 }
 
-// Words copied to a place that is as long. std's `copy_from_slice` is compiled to a call of memmove, and the library for C may need memcpy and memset alone.
-fn copy(from: &[u64], to: &mut [u64])
-    requires { length from.now ≡ length to.old }
-    ensures { to.new ≡ from.now }
-{
-    let n = from.len();
-    for k in 0..n {
-        to[k] = from[k];
-    }
-}
-
 impl RowWords {
     // ---- from a record to rows, and back
 
@@ -38,7 +27,7 @@ impl RowWords {
         let at = Plan::CELLS * r;
         let values = m.cells;
         self.counters[r] = m.counter;
-        copy(&values, &mut self.cells[at..at + Plan::CELLS]);
+        array::step::copy(&values, &mut self.cells[at..at + Plan::CELLS]);
     }
 
     // The rows of a system.
@@ -73,7 +62,7 @@ impl RowWords {
     {
         let at = Plan::CELLS * r;
         let mut values = [0u64; Plan::CELLS];
-        copy(&self.cells[at..at + Plan::CELLS], &mut values);
+        array::step::copy(&self.cells[at..at + Plan::CELLS], &mut values);
         Memory {
             counter: self.counters[r],
             cells: values,

@@ -35,17 +35,6 @@ pub fn put_word(words: &mut [u64], i: usize, x: u64)
     }
 }
 
-// Words copied to a place that is as long. std's `copy_from_slice` is compiled to a call of memmove, and the library for C may need memcpy and memset alone.
-fn copy(from: &[u64], to: &mut [u64])
-    requires { length from.now ≡ length to.old }
-    ensures { to.new ≡ from.now }
-{
-    let n = from.len();
-    for k in 0..n {
-        to[k] = from[k];
-    }
-}
-
 // ---- a memory, whose words begin at a place
 
 fn low(x: u64) -> u16
@@ -61,7 +50,7 @@ fn patterns(words: &[u64], at: usize, cells: &mut [u64])
 {
     let end = at + Plan::CELLS;
     if end <= words.len() {
-        copy(&words[at..end], cells);
+        array::step::copy(&words[at..end], cells);
         return;
     }
     for c in 0..Plan::CELLS {
@@ -87,7 +76,7 @@ pub fn put_memory(memory: Memory, at: usize, words: &mut [u64])
     let first = at + 1;
     let end = first + Plan::CELLS;
     if end <= words.len() {
-        copy(&memory.cells, &mut words[first..end]);
+        array::step::copy(&memory.cells, &mut words[first..end]);
         return;
     }
     for c in 0..Plan::CELLS {
@@ -100,7 +89,7 @@ pub fn put_memory(memory: Memory, at: usize, words: &mut [u64])
 fn at_most(x: u64) -> u16
     ensures { result ≡ min x 65535 }
 {
-    if x < 65535 { x as u16 } else { 65535 }
+    x.min(65535) as u16
 }
 
 // The values that the plane remembers.

@@ -1,6 +1,7 @@
 -- `listing::next` meets its contract: an answer for each way out.
 use mathlib.Core.Path.{sym, ◌∙◌}
 use native.Mathlib.Omega.{arith}
+use borrow.Author.Tests.{eqb-true, eqb-false}
 use Rattle.answer.proofs.TestLaws.{handed-on}
 use Rattle.plan_period.proofs.AnswerLaws.{accepted-of-period, period-is}
 use Rattle.plan.proofs.AcceptedLaws.{shape-of-accepted}
@@ -41,8 +42,8 @@ returns-then-out-size c =
     let size = c.printed_size-size in
     next-room a.run.now a.rest.now a.out.now ok counts (omega (arith, size.ensures, c.if-out-size.true))
 
-pub returns-then-rest-eq0 : goal.returns-then-rest-eq0
-returns-then-rest-eq0 c =
+pub returns-then-is_empty : goal.returns-then-is_empty
+returns-then-is_empty c =
     let a = c.args in
     let p = a.run.now.plan in
     let n = sym c.recovery_period.ensures ∙ c.in_ok-period.was in
@@ -50,7 +51,7 @@ returns-then-rest-eq0 c =
     let tests = counts-are p a.run.now.system 0 (period-is p n) c.counts_ok.ensures in
     let counts = sym tests ∙ c.if-not-counts_ok.false in
     let size = c.printed_size-size in
-    next-ended a.run.now a.rest.now a.out.now ok counts (omega (arith, size.ensures, c.if-out-size.false)) c.if-rest-eq0.true
+    next-ended a.run.now a.rest.now a.out.now ok counts (omega (arith, size.ensures, c.if-out-size.false)) (eqb-true _ _ (sym c.is_empty.ensures ∙ c.if-is_empty.true))
 
 pub next_line-requires : goal.next_line-requires
 next_line-requires c =
@@ -70,4 +71,4 @@ returns c =
     let tests = counts-are p a.run.now.system 0 (period-is p n) c.counts_ok.ensures in
     let counts = sym tests ∙ c.if-not-counts_ok.false in
     let size = c.printed_size-size in
-    next-taken a.run.now a.rest.now a.out.now ok counts (omega (arith, size.ensures, c.if-out-size.false)) size.ensures c.if-rest-eq0.false c.next_line.ensures.0 c.next_line.ensures.1 c.next_line.ensures.2
+    next-taken a.run.now a.rest.now a.out.now ok counts (omega (arith, size.ensures, c.if-out-size.false)) size.ensures (eqb-false _ _ (sym c.is_empty.ensures ∙ c.if-is_empty.false)) c.next_line.ensures.0 c.next_line.ensures.1 c.next_line.ensures.2

@@ -10,7 +10,7 @@ use Rattle.numeral.specs.Numeral.{is_digit, decimal}
 use Rattle.numeral.proofs.NumeralLaws.{digit-yes, digit-no, decimal-more, digits_more, numeral-too-long, numeral-other, numeral-large, numeral-whole, power-more, power_below}
 use Rattle.numeral_read.proofs.PartLaws.{part-value, part-none, digits-join, part-bound, power-eight, decimal-eight, eight-zeros, eight-first}
 use Rattle.numeral_read.proofs.numeral.Goals as goal
-use Rattle.numeral_read.proofs.numeral.Goals.{else-n-lt20, else-v-ge1844674407370955161, then-n-lt20, then-v-ge1844674407370955161+else-v-gt1844674407370955161+else-x-gt5}
+use Rattle.numeral_read.proofs.numeral.Goals.{else-v-ge1844674407370955161, then-v-ge1844674407370955161+else-v-gt1844674407370955161+else-x-gt5}
 
 pub returns-then-n-lt8 : goal.returns-then-n-lt8
 returns-then-n-lt8 c = c.few.ensures
@@ -22,14 +22,14 @@ pub loop-i-init : goal.loop-i-init
 unfolding decimal all_below
 loop-i-init c = (
   refl,
-  elim c.if-n-lt20.branch [ then-n-lt20 h ↦ search rules | else-n-lt20 h ↦ search rules ],
-  elim c.if-n-lt20.branch [ then-n-lt20 h ↦ search rules | else-n-lt20 h ↦ search rules ],
-  elim c.if-n-lt20.branch [ then-n-lt20 h ↦ search rules | else-n-lt20 h ↦ search rules ],
+  omega (arith, c.min-most.ensures),
+  omega (arith, c.min-most.ensures),
+  omega (arith, c.min-most.ensures),
   omega arith,
   omega arith,
   refl,
   refl,
-  elim c.if-n-lt20.branch [ then-n-lt20 h ↦ search rules | else-n-lt20 h ↦ search rules ],
+  omega (arith, c.min-most.ensures),
   (λ p. absurd (omega (arith, p))),
 )
 
@@ -104,11 +104,11 @@ loop-j-preserved c =
       omega arith,
     )
 
-pub returns-then-n-lt20-2 : goal.returns-then-n-lt20-2
-returns-then-n-lt20-2 c =
+pub returns-then-n-lt20 : goal.returns-then-n-lt20
+returns-then-n-lt20 c =
     let d = c.args.d.now in
     let h = c.loop-j.invariant.0 in
-    let n : c.if-n-lt20.most ≡ length d = elim c.if-n-lt20.branch [ then-n-lt20 t ↦ omega arith | else-n-lt20 t ↦ omega arith ] in
+    let n : c.min-most.result ≡ length d = omega (arith, c.min-most.ensures) in
     let e : c.loop-j.j ≡ length d = omega arith in
     numeral-whole d c.loop-j.j c.loop-j.v e h.6 h.7 (omega arith) (λ z. absurd (h.9 c.loop-j.invariant.1 z)) (omega (arith, power_below c.loop-j.v c.loop-j.j 19 h.5 (omega arith)))
 

@@ -1,6 +1,5 @@
 -- `counts::step::counts` meets its contract: the first i counts are as after the frame.
 use mathlib.Core.Path.{sym}
-use Prim.Native.Nat.{◌-◌}
 use native.Mathlib.Omega.{arith}
 use borrow.Author.Rules.{rules}
 use Rattle.array.proofs.PlacesLaws.{fill_none}

@@ -1,5 +1,5 @@
 use mathlib.Core.Path.{◌≡◌}
-use Prim.Native.Nat.{◌-◌, ◌≤◌}
+use Prim.Native.Nat.{◌≤◌}
 use Rattle.array.specs.Index.{fill}
 use Rattle.system.specs.Counts.{good_after}
 use Rattle.counts.proofs.step.counts.Given as goal

@@ -1,7 +1,5 @@
 -- `counts::step::counts_ok` meets its contract: the first i counts are not above the period.
 use mathlib.Core.Path.{sym}
-use mathlib.Core.Bool.{true}
-use Prim.Native.Nat.{◌-◌}
 use native.Mathlib.Omega.{arith}
 use borrow.Author.Rules.{rules}
 use Rattle.array.proofs.IndexLaws.{all_below-none}

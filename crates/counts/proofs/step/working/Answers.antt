@@ -1,6 +1,5 @@
 -- `counts::step::working` meets its contract: the loop has counted among the first i nodes.
 use mathlib.Core.Path.{sym, ◌∙◌}
-use Prim.Native.Nat.{◌-◌}
 use native.Mathlib.Omega.{arith}
 use borrow.Author.Rules.{rules}
 use Rattle.array.proofs.IndexLaws.{how_many-none}

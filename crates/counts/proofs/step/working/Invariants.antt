@@ -1,5 +1,5 @@
 use mathlib.Core.Path.{◌≡◌}
-use Prim.Native.Nat.{◌-◌, ◌≤◌}
+use Prim.Native.Nat.{◌≤◌}
 use Rattle.array.specs.Index.{how_many}
 use Rattle.plan.specs.Limits.{most_nodes}
 use Rattle.system.specs.Counts.{is_working}

@@ -1,5 +1,8 @@
 -- `plan_text::step::read_lines` meets its contract: the first i lines pass and mean the record so far; the first line that does not pass refuses the text.
-use Rattle.std.specs.Prelude.{Some}
+use Rattle.std.specs.Prelude.{Some, Err, ok_or, unwrap_or}
+use Rattle.std.specs.Result.{result_ok, result_err}
+use Rattle.answer.specs.declared.Refusal.TheVariants.{Unrecoverable}
+use Rattle.answer.proofs.TestLaws.{handed-on}
 use mathlib.Core.Path.{◌≡◌, sym, ap, ◌∙◌}
 use mathlib.Core.Bool.{true, not}
 use Prim.Native.Nat.{◌+◌, ◌-◌}
@@ -88,12 +91,15 @@ returns-then-not-is_last c = answer-missing c.loop-i.invariant c.loop-i-test.fal
 pub period-requires : goal.period-requires
 period-requires c = read-well_formed c.loop-i.invariant c.loop-i-test.false c.is_last.ensures (ap not c.if-not-is_last.false)
 
-pub returns-in_default-period : goal.returns-in_default-period
-returns-in_default-period c =
+pub returns-in_err-period : goal.returns-in_err-period
+returns-in_err-period c =
     let loop = c.loop-i in
-    answer-unrecoverable loop.invariant c.loop-i-test.false c.is_last.ensures (ap not c.if-not-is_last.false) (any-none _ (sym c.in_default-period.is ∙ c.period.ensures))
+    let none = c.ok_or.ensures.ok_part ∙ ap result_ok c.in_err-period.was in
+    let which = ap (λ o. unwrap_or (result_err o) Unrecoverable) (sym c.in_err-period.was ∙ c.ok_or.ensures.value ∙ ap (λ o. ok_or o Unrecoverable) none) in
+    handed-on c.from_residual.result c.from_residual.ensures.1 ∙ ap Err which ∙ answer-unrecoverable loop.invariant c.loop-i-test.false c.is_last.ensures (ap not c.if-not-is_last.false) (any-none _ (sym none ∙ c.period.ensures))
 
 pub returns : goal.returns
 returns c =
-    let found = any-some _ (sym c.in-Some-period.is ∙ c.period.ensures) in
+    let some = c.ok_or.ensures.ok_part ∙ ap result_ok c.in_ok-period.was in
+    let found = any-some _ (sym some ∙ c.period.ensures) in
     answer-done c.loop-i.invariant c.loop-i-test.false c.is_last.ensures (ap not c.if-not-is_last.false) found.0 (λ z. omega (arith, z, found.0, found.1))

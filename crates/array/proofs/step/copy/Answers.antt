@@ -1,11 +1,11 @@
--- `system_words::step::copy` meets its contract: the first k words are stored.
+-- `array::step::copy` meets its contract: the first k words are stored.
 use mathlib.Core.Path.{refl, sym, ap, ◌∙◌}
 use Prim.Native.Nat.{◌-◌}
 use native.Mathlib.Omega.{arith}
 use lib.ListN.{length, get_or}
 use Rattle.array.proofs.PlacesLaws.{fill_none, fill-length, fill-copied}
 use Rattle.array.proofs.LoopLaws.{stored_next, stored-all}
-use Rattle.system_words.proofs.step.copy.Goals as goal
+use Rattle.array.proofs.step.copy.Goals as goal
 
 pub loop-k-init : goal.loop-k-init
 loop-k-init c = (refl, c.requires, omega arith, sym (fill_none _ _))
