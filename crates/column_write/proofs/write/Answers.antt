@@ -1,16 +1,30 @@
 -- `column_write::write` meets its contract: what is yet to be written, then what stands in `out` from `i` on, is the column.
 use mathlib.Core.Path.{◌≡◌, sym, ap, ◌∙◌}
-use mathlib.Core.List.{[], ◌++◌}
+use mathlib.Core.List.{List, [], ◌++◌}
 use Prim.Native.Nat.{ℕ, suc, ◌+◌, ◌<◌, ◌≤◌, ◌-◌, ◌/◌, ◌%◌}
 use native.Mathlib.Omega.{arith}
 use lib.ListN.{length, set, drop, length-set}
 use borrow.Author.Rules.{rules}
 use Rattle.column.specs.Column.{column, front}
+use Rattle.array.specs.Code.{placed}
+use Rattle.word.specs.Word.{word_of, bytes_of}
 use Rattle.column_write.specs.Code.{digit_list}
 use Rattle.column_write.proofs.PrintLaws.{Written, written-digits, written-short, digits-eight, digits-four, digits-room, digits-length}
 use Rattle.column_write.proofs.WritingLaws.{column-start, column-end, column-next, front-next}
 use Rattle.column_write.proofs.write.Goals as goal
 use Rattle.column_write.proofs.write.Goals.{then-i-ge4+else-rest-eq0-2, else-i-ge4}
+
+-- four digits written at once, and more to come
+written-four :
+    (e l m : List ℕ) (v i rest d : ℕ) →
+    Written e v l i rest →
+    4 ≤ i →
+    0 < rest / 10000 →
+    d ≡ word_of (digit_list 4 (rest % 10000) ++ digit_list 4 0) →
+    m ≡ placed l (i - 4) (bytes_of 4 (d + 3472328296227680304)) →
+    Written e v m (i - 4) (rest / 10000)
+written-four e l m v i rest d h p wider q u =
+    written-digits e l m (digit_list 4 0) v i rest d h 4 p (ap (λ (n : ℕ). 4 + n) (digits-length 4 0)) (q ∙ digits-four rest) wider u
 
 pub loop-i-init : goal.loop-i-init
 loop-i-init c = (search rules, search rules, column-start c.args.out.now c.args.v)
@@ -86,15 +100,11 @@ shape_of-out-then-i-eq0 c =
     let joined : Written c.args.out.now c.args.v c.if-i-ge4.out c.if-i-ge4.i c.if-i-ge4.rest =
     elim c.if-i-ge4.branch [
       | then-i-ge4+else-rest-eq0-2 w ↦
-          let p : 4 ≤ c.loop-i.i = omega (arith, w.if-i-ge4.true) in
-          let wider : 0 < c.loop-i.rest / 10000 = omega (arith, w.if-rest-eq0-2.false) in
           rw (w.out-is, w.i-is, w.rest-is)
-          (written-digits c.args.out.now c.loop-i.out w.write_le4-then-i-ge4.new.out (digit_list 4 0) c.args.v c.loop-i.i c.loop-i.rest w.digit_word-d-then-i-ge4.result c.loop-i.invariant
-          4
-          p
-          (ap (λ (n : ℕ). 4 + n) (digits-length 4 0))
-          (w.digit_word-d-then-i-ge4.ensures ∙ digits-four c.loop-i.rest)
-          wider
+          (written-four c.args.out.now c.loop-i.out w.write_le4-then-i-ge4.new.out c.args.v c.loop-i.i c.loop-i.rest w.digit_word-d-then-i-ge4.result c.loop-i.invariant
+          (omega (arith, w.if-i-ge4.true))
+          (omega (arith, w.if-rest-eq0-2.false))
+          w.digit_word-d-then-i-ge4.ensures
           w.write_le4-then-i-ge4.ensures)
       | else-i-ge4 w ↦ rw (w.out-is, w.i-is, w.rest-is) c.loop-i.invariant
     ] in
@@ -105,15 +115,11 @@ returns-then-i-eq0 c =
     let joined : Written c.args.out.now c.args.v c.if-i-ge4.out c.if-i-ge4.i c.if-i-ge4.rest =
     elim c.if-i-ge4.branch [
       | then-i-ge4+else-rest-eq0-2 w ↦
-          let p : 4 ≤ c.loop-i.i = omega (arith, w.if-i-ge4.true) in
-          let wider : 0 < c.loop-i.rest / 10000 = omega (arith, w.if-rest-eq0-2.false) in
           rw (w.out-is, w.i-is, w.rest-is)
-          (written-digits c.args.out.now c.loop-i.out w.write_le4-then-i-ge4.new.out (digit_list 4 0) c.args.v c.loop-i.i c.loop-i.rest w.digit_word-d-then-i-ge4.result c.loop-i.invariant
-          4
-          p
-          (ap (λ (n : ℕ). 4 + n) (digits-length 4 0))
-          (w.digit_word-d-then-i-ge4.ensures ∙ digits-four c.loop-i.rest)
-          wider
+          (written-four c.args.out.now c.loop-i.out w.write_le4-then-i-ge4.new.out c.args.v c.loop-i.i c.loop-i.rest w.digit_word-d-then-i-ge4.result c.loop-i.invariant
+          (omega (arith, w.if-i-ge4.true))
+          (omega (arith, w.if-rest-eq0-2.false))
+          w.digit_word-d-then-i-ge4.ensures
           w.write_le4-then-i-ge4.ensures)
       | else-i-ge4 w ↦ rw (w.out-is, w.i-is, w.rest-is) c.loop-i.invariant
     ] in
@@ -126,15 +132,11 @@ bounds-out-i c =
     let joined : Written c.args.out.now c.args.v c.if-i-ge4.out c.if-i-ge4.i c.if-i-ge4.rest =
     elim c.if-i-ge4.branch [
       | then-i-ge4+else-rest-eq0-2 w ↦
-          let p : 4 ≤ c.loop-i.i = omega (arith, w.if-i-ge4.true) in
-          let wider : 0 < c.loop-i.rest / 10000 = omega (arith, w.if-rest-eq0-2.false) in
           rw (w.out-is, w.i-is, w.rest-is)
-          (written-digits c.args.out.now c.loop-i.out w.write_le4-then-i-ge4.new.out (digit_list 4 0) c.args.v c.loop-i.i c.loop-i.rest w.digit_word-d-then-i-ge4.result c.loop-i.invariant
-          4
-          p
-          (ap (λ (n : ℕ). 4 + n) (digits-length 4 0))
-          (w.digit_word-d-then-i-ge4.ensures ∙ digits-four c.loop-i.rest)
-          wider
+          (written-four c.args.out.now c.loop-i.out w.write_le4-then-i-ge4.new.out c.args.v c.loop-i.i c.loop-i.rest w.digit_word-d-then-i-ge4.result c.loop-i.invariant
+          (omega (arith, w.if-i-ge4.true))
+          (omega (arith, w.if-rest-eq0-2.false))
+          w.digit_word-d-then-i-ge4.ensures
           w.write_le4-then-i-ge4.ensures)
       | else-i-ge4 w ↦ rw (w.out-is, w.i-is, w.rest-is) c.loop-i.invariant
     ] in
@@ -145,15 +147,11 @@ loop-i-2-init c =
     let joined : Written c.args.out.now c.args.v c.if-i-ge4.out c.if-i-ge4.i c.if-i-ge4.rest =
     elim c.if-i-ge4.branch [
       | then-i-ge4+else-rest-eq0-2 w ↦
-          let p : 4 ≤ c.loop-i.i = omega (arith, w.if-i-ge4.true) in
-          let wider : 0 < c.loop-i.rest / 10000 = omega (arith, w.if-rest-eq0-2.false) in
           rw (w.out-is, w.i-is, w.rest-is)
-          (written-digits c.args.out.now c.loop-i.out w.write_le4-then-i-ge4.new.out (digit_list 4 0) c.args.v c.loop-i.i c.loop-i.rest w.digit_word-d-then-i-ge4.result c.loop-i.invariant
-          4
-          p
-          (ap (λ (n : ℕ). 4 + n) (digits-length 4 0))
-          (w.digit_word-d-then-i-ge4.ensures ∙ digits-four c.loop-i.rest)
-          wider
+          (written-four c.args.out.now c.loop-i.out w.write_le4-then-i-ge4.new.out c.args.v c.loop-i.i c.loop-i.rest w.digit_word-d-then-i-ge4.result c.loop-i.invariant
+          (omega (arith, w.if-i-ge4.true))
+          (omega (arith, w.if-rest-eq0-2.false))
+          w.digit_word-d-then-i-ge4.ensures
           w.write_le4-then-i-ge4.ensures)
       | else-i-ge4 w ↦ rw (w.out-is, w.i-is, w.rest-is) c.loop-i.invariant
     ] in
@@ -192,15 +190,11 @@ shape_of-out c =
     let joined : Written c.args.out.now c.args.v c.if-i-ge4.out c.if-i-ge4.i c.if-i-ge4.rest =
     elim c.if-i-ge4.branch [
       | then-i-ge4+else-rest-eq0-2 w ↦
-          let p : 4 ≤ c.loop-i.i = omega (arith, w.if-i-ge4.true) in
-          let wider : 0 < c.loop-i.rest / 10000 = omega (arith, w.if-rest-eq0-2.false) in
           rw (w.out-is, w.i-is, w.rest-is)
-          (written-digits c.args.out.now c.loop-i.out w.write_le4-then-i-ge4.new.out (digit_list 4 0) c.args.v c.loop-i.i c.loop-i.rest w.digit_word-d-then-i-ge4.result c.loop-i.invariant
-          4
-          p
-          (ap (λ (n : ℕ). 4 + n) (digits-length 4 0))
-          (w.digit_word-d-then-i-ge4.ensures ∙ digits-four c.loop-i.rest)
-          wider
+          (written-four c.args.out.now c.loop-i.out w.write_le4-then-i-ge4.new.out c.args.v c.loop-i.i c.loop-i.rest w.digit_word-d-then-i-ge4.result c.loop-i.invariant
+          (omega (arith, w.if-i-ge4.true))
+          (omega (arith, w.if-rest-eq0-2.false))
+          w.digit_word-d-then-i-ge4.ensures
           w.write_le4-then-i-ge4.ensures)
       | else-i-ge4 w ↦ rw (w.out-is, w.i-is, w.rest-is) c.loop-i.invariant
     ] in
@@ -213,15 +207,11 @@ returns c =
     let joined : Written c.args.out.now c.args.v c.if-i-ge4.out c.if-i-ge4.i c.if-i-ge4.rest =
     elim c.if-i-ge4.branch [
       | then-i-ge4+else-rest-eq0-2 w ↦
-          let p : 4 ≤ c.loop-i.i = omega (arith, w.if-i-ge4.true) in
-          let wider : 0 < c.loop-i.rest / 10000 = omega (arith, w.if-rest-eq0-2.false) in
           rw (w.out-is, w.i-is, w.rest-is)
-          (written-digits c.args.out.now c.loop-i.out w.write_le4-then-i-ge4.new.out (digit_list 4 0) c.args.v c.loop-i.i c.loop-i.rest w.digit_word-d-then-i-ge4.result c.loop-i.invariant
-          4
-          p
-          (ap (λ (n : ℕ). 4 + n) (digits-length 4 0))
-          (w.digit_word-d-then-i-ge4.ensures ∙ digits-four c.loop-i.rest)
-          wider
+          (written-four c.args.out.now c.loop-i.out w.write_le4-then-i-ge4.new.out c.args.v c.loop-i.i c.loop-i.rest w.digit_word-d-then-i-ge4.result c.loop-i.invariant
+          (omega (arith, w.if-i-ge4.true))
+          (omega (arith, w.if-rest-eq0-2.false))
+          w.digit_word-d-then-i-ge4.ensures
           w.write_le4-then-i-ge4.ensures)
       | else-i-ge4 w ↦ rw (w.out-is, w.i-is, w.rest-is) c.loop-i.invariant
     ] in
