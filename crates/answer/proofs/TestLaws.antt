@@ -122,6 +122,25 @@ refused-some (t ∷ ts) e =
     let later : passed ts ≡ false → (r : Refusal) × (refused ts ≡ Some r) = refused-some ts in
     split t.right (λ r. rw r (later (rw r at e))) (λ r. rw r (t.refusal, refl))
 
+-- its number is not 0, which is that of no refusal
+
+pub number-above : (r : Refusal) → 0 < number_of r
+number-above TextLength = omega arith
+number-above (Malformed line) = omega arith
+number-above Header = omega arith
+number-above (OutOfOrder line) = omega arith
+number-above (OutOfRange line) = omega arith
+number-above Unrecoverable = omega arith
+number-above InvalidPlan = omega arith
+number-above WrongLength = omega arith
+number-above MaskOrCount = omega arith
+number-above (RunLine line) = omega arith
+number-above NodesOrLength = omega arith
+number-above PageAccess = omega arith
+
+pub refused-above : (ts : List Test) → passed ts ≡ false → 0 < number_given (refused ts)
+refused-above ts e = let some = refused-some ts e in rw some.1 (number-above some.0)
+
 -- ---- what a call gives
 
 pub given-passed : {A : Type 0} (ts : List Test) (x : A) → passed ts ≡ true → given ts x ≡ Ok x

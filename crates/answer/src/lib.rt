@@ -27,7 +27,7 @@ pub enum Refusal {
 }
 
 impl Refusal {
-    // The refusal with a number and a line, if there is one.
+    // The refusal with a number, of a line where it has one; none for a number that is no refusal's.
     pub fn with_number(number: usize, line: usize) -> Option<Refusal>
         ensures { result ≡ refusal_of number line }
     {

@@ -26,19 +26,21 @@ pub fn majority(values: &[u64; Plan::NODES], k: usize, n: usize) -> Option<u64>
     requires { (k ≤ n) × (n ≤ most_nodes) }
     ensures { result ≡ majority_of (packed values.now k) n }
 {
-    for i in 0..k {
+    let mut found = None;
+    'candidates: for i in 0..k {
         let x = values[i];
         let mut held: usize = 0;
         for j in 0..k {
             if values[j] == x {
                 held += 1;
                 if n < 2 * held {
-                    return Some(x);
+                    found = Some(x);
+                    break 'candidates;
                 }
             }
         }
     }
-    None
+    found
 }
 
 // How many of the first k values are the voted one.

@@ -35,6 +35,17 @@ fn state(card: &Card) -> CardState
     }
 }
 
+// Bins, and a state with the card's own memory, which is not stored again.
+fn set_page(card: &mut Card, state: CardState, bins: [u8; Card::BINS])
+    requires { state.memory ≡ card.old.memory }
+    ensures { card.new ≡ card_of (record { state = state; bins = bins }) }
+{
+    card.phase = state.phase;
+    card.flags = state.flags;
+    card.mask = state.mask;
+    card.bins = bins;
+}
+
 fn set_state(card: &mut Card, state: CardState)
     ensures { card.new ≡ card_of (record { state = state; bins = card.old.bins }) }
 {
@@ -89,8 +100,10 @@ pub fn deliver(plan: Plan, card: &mut Card, number: usize, message: &[u8]) -> Re
         return Err(Refusal::WrongLength);
     }
     let before = state(card);
-    let next = card_step::step::deliver(plan.nodes, cells, before, &mut card.bins, number, message);
-    set_state(card, next);
+    // An array of their own: beside the memory in `card` they would have it copied with them.
+    let mut bins = card.bins;
+    let next = card_step::step::deliver(plan.nodes, cells, before, &mut bins, number, message);
+    set_page(card, next, bins);
     Ok(())
 }
 

@@ -1,9 +1,8 @@
 // The bins of a card. Each step is lent them, and requires that they have the bytes of so many bins.
-ghost use Rattle.std.specs.Prelude.{◌≡◌, true, ◌||◌, ◌+◌, ◌*◌, ◌<◌, ◌≤◌, eqb, length, replicate};
+ghost use Rattle.std.specs.Prelude.{◌≡◌, ◌||◌, ◌+◌, ◌*◌, ◌<◌, ◌≤◌, eqb, length, replicate};
 ghost use Rattle.array.specs.Index.{all_below};
 ghost use Rattle.array.specs.Code.{placed};
-ghost use Rattle.plan.specs.Limits.{most_nodes, most_cells};
-ghost use Rattle.plan.specs.Accepted.{accepted};
+ghost use Rattle.plan.specs.Limits.{most_nodes, most_frames, most_cells};
 ghost use Rattle.memory.specs.Size.{cell_at, bin_bytes};
 ghost use Rattle.memory.specs.Node.{voted as voted_of};
 ghost use Rattle.card_bins.specs.Bins.{slot_size, slot_at, is_filled, with_bin, emptied, last_empty, heard_in, mailbox_in};
@@ -107,9 +106,9 @@ fn mailbox(bins: &[u8], nodes: usize, cells: usize, out: &mut [u8])
 const MAILBOX: usize = Plan::NODES * (SLOT - MARK);
 
 // A vote on the bins.
-pub fn vote(plan: &Plan, memory: &Memory, bins: &[u8]) -> Memory
-    requires { (accepted plan.now ≡ true) × (plan.now.nodes * slot_size plan.now.cells ≤ length bins.now) }
-    ensures { result ≡ voted_of plan.now memory.now (mailbox_in plan.now.cells plan.now.nodes bins.now) }
+pub fn vote(plan: &Plan, memory: Memory, bins: &[u8]) -> Memory
+    requires { (plan.now.nodes ≤ most_nodes) × (0 < plan.now.frames) × (plan.now.frames ≤ most_frames) × (plan.now.cells ≤ most_cells) × (plan.now.nodes * slot_size plan.now.cells ≤ length bins.now) }
+    ensures { result ≡ voted_of plan.now memory (mailbox_in plan.now.cells plan.now.nodes bins.now) }
 {
     let mut all = [0u8; MAILBOX];
     mailbox(bins, plan.nodes, plan.cells, &mut all);

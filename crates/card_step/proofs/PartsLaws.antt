@@ -6,6 +6,7 @@ use Prim.Native.Nat.{ℕ, ◌+◌, ◌%◌, ◌<◌, ◌≤◌}
 use borrow.Author.Tests.{lt-ltb, le-ltb}
 use Rattle.std.proofs.Common.{◌⊎◌, inl, inr}
 use Rattle.array.specs.Index.{fill}
+use Rattle.array.proofs.TestLaws.{split}
 use Rattle.plan.specs.declared.Plan.{Plan}
 use Rattle.memory.specs.declared.Memory.{Memory}
 use Rattle.memory.specs.Node.{computed, voted, setpoint}
@@ -63,6 +64,11 @@ module _ (p : Plan) (number : ℕ) (k : CardParts) where
       ◌≡◌ {A = CardParts} (record { state = s; bins = b }) (delivered p number k message)
   unfolding delivered
   delivered-left message t e f = rw (t, e, f)
+
+  -- the memory stays
+  pub delivered-memory : (message : List ℕ) → (delivered p number k message).state.memory ≡ k.state.memory
+  unfolding delivered as_counts with_flags
+  delivered-memory message = split (takes_bin p number k) (λ t. rw t) (λ t. rw t)
 
 -- ---- a tick
 

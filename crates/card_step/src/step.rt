@@ -54,8 +54,8 @@ fn moved(plan: &Plan, state: CardState, bins: &[u8], sensors: &[u64]) -> Memory
 {
     let memory = state.memory;
     match card_page::step::phase(state) {
-        Phase::Compute => memory::step::compute(plan, &memory, sensors),
-        Phase::Vote => card_bins::step::vote(plan, &memory, bins),
+        Phase::Compute => memory::step::compute(plan, memory, sensors),
+        Phase::Vote => card_bins::step::vote(plan, memory, bins),
         Phase::Broadcast | Phase::Sync => memory,
     }
 }

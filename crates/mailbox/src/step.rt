@@ -1,8 +1,7 @@
-// The message of one node and its vote, for callers that know the plan to be accepted and the lengths to be right.
+// The message of one node and its vote, for callers that know the plan to be within its limits and the lengths to be right.
 ghost use Rattle.std.specs.Prelude.{◌≡◌, true, cond, ℕ, ◌+◌, ◌*◌, ◌<◌, ◌≤◌, length, get_or, Some};
 ghost use Rattle.array.specs.Bit.{bit};
 ghost use Rattle.plan.specs.Limits.{most_nodes, most_frames, most_cells};
-ghost use Rattle.plan.specs.Accepted.{accepted};
 ghost use Rattle.ballot.specs.Code.{Packs};
 ghost use Rattle.memory.specs.Size.{cell_at, message_size, bin_bytes, mailbox_size};
 ghost use Rattle.memory.specs.Node.{message_of, voted as voted_of, vote_agreement};
@@ -21,7 +20,7 @@ fn sent(voted: bool, cell: u64) -> u64
 }
 
 pub fn message(plan: &Plan, memory: &Memory, out: &mut [u8])
-    requires { (accepted plan.now ≡ true) × (length out.old ≡ message_size plan.now) }
+    requires { (0 < plan.now.frames) × (plan.now.frames ≤ most_frames) × (plan.now.cells ≤ most_cells) × (length out.old ≡ message_size plan.now) }
     ensures { out.new ≡ message_of plan.now memory.now }
 {
     let counter = memory.counter;
@@ -96,9 +95,9 @@ fn words_in(mailbox: &[u8], nodes: usize, cells: usize, w: usize) -> Words
 
 // ---- the vote
 
-pub fn vote(plan: &Plan, memory: &Memory, mailbox: &[u8]) -> Vote
-    requires { (accepted plan.now ≡ true) × (length mailbox.now ≡ mailbox_size plan.now) }
-    ensures { (result.memory ≡ voted_of plan.now memory.now mailbox.now) × (result.agreement ≡ vote_agreement plan.now memory.now mailbox.now) }
+pub fn vote(plan: &Plan, memory: Memory, mailbox: &[u8]) -> Vote
+    requires { (plan.now.nodes ≤ most_nodes) × (0 < plan.now.frames) × (plan.now.frames ≤ most_frames) × (plan.now.cells ≤ most_cells) × (length mailbox.now ≡ mailbox_size plan.now) }
+    ensures { (result.memory ≡ voted_of plan.now memory mailbox.now) × (result.agreement ≡ vote_agreement plan.now memory mailbox.now) }
 {
     let nodes = plan.nodes;
     let frames = plan.frames;

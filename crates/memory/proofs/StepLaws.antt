@@ -1,6 +1,6 @@
 -- Laws for the proofs of `step`: one law for a loop's start, and one for each way through its body.
 use Rattle.std.specs.Prelude.{Option, unwrap_or}
-use mathlib.Core.Path.{◌≡◌, refl, sym, ◌∙◌, subst}
+use mathlib.Core.Path.{◌≡◌, refl, sym, ap, ◌∙◌, subst}
 use mathlib.Core.Bool.{Bool, true, false, cond}
 use mathlib.Core.List.{List, [], ◌++◌, append_assoc, append-nil}
 use Prim.Native.Nat.{ℕ, zero, suc, ◌+◌, ◌-◌, ◌*◌, ◌%◌, ◌≤◌, ◌<◌, min}
@@ -19,9 +19,10 @@ use Rattle.array.proofs.LeastLaws.{least-taken, least-left}
 use Rattle.array.proofs.PlacesLaws.{fill-out, fill-kept, joined-none, joined-more}
 use Rattle.array.proofs.WordLaws.{bytes-length}
 use Rattle.plan.specs.declared.Plan.{Plan}
-use Rattle.plan.specs.Limits.{most_cells}
+use Rattle.plan.specs.Limits.{most_cells, most_actuators}
+use Rattle.plan.specs.Accepted.{accepted}
 use Rattle.plan.specs.Tables.{task_at, voted_in}
-use Rattle.plan.proofs.AcceptedLaws.{Shape}
+use Rattle.plan.proofs.AcceptedLaws.{Shape, shape-of-accepted}
 use Rattle.memory.specs.declared.Memory.{Memory}
 use Rattle.memory.specs.Size.{counter_size, pattern_size, cell_at, bin_size}
 use Rattle.task.specs.Task.{op_value, run_task, run_tasks}
@@ -229,3 +230,11 @@ unfolding voted before cell_after voted_cell
 memory-voted p m box {counter} {g} {cells} e h k =
     let same : cells ≡ fill (voted_cell p m box (before p (voted_counter p m box))) p.cells m.cells = k ∙ rw (h, e) in
     λ i. record { counter = e i; cells = same i }
+
+-- ---- the setpoints of an accepted plan, in as many places as it has actuators
+
+pub places-right : (p : Plan) → accepted p ≡ true → {n : ℕ} → n ≡ p.actuators → (n ≤ most_actuators) × ((i : ℕ) → i < n → get_or p.actuator_cell i 0 < most_cells)
+places-right p a e = let s = shape-of-accepted p a in (omega (arith, e, s.actuators-le), λ i l. omega (arith, s.actuator i (omega (arith, e, l)), s.cells-le))
+
+pub places-all : (p : Plan) (m : Memory) {n : ℕ} (out : List ℕ) → n ≡ p.actuators → fill (setpoint p m) n out ≡ fill (setpoint p m) p.actuators out
+places-all p m out e = ap (λ (k : ℕ). fill (setpoint p m) k out) e

@@ -18,9 +18,9 @@ pub fn power_on(plan: &Plan) -> Memory
 }
 
 // The tasks stand by frame, so the first of a later one ends the scan.
-pub fn compute(plan: &Plan, memory: &Memory, sensors: &[u64]) -> Memory
+pub fn compute(plan: &Plan, memory: Memory, sensors: &[u64]) -> Memory
     requires { (accepted plan.now ≡ true) × (length sensors.now ≡ plan.now.sensors) }
-    ensures { result ≡ computed plan.now sensors.now memory.now }
+    ensures { result ≡ computed plan.now sensors.now memory }
 {
     let frames = plan.frames;
     let count = plan.task_count;
@@ -88,11 +88,12 @@ pub fn frame_before(counter: u16, frames: usize) -> usize
     (counter as usize + frames - 1) % frames
 }
 
+// The setpoints of a memory, of as many actuators as there are places. Of the plan it asks that those actuators have cells.
 pub fn setpoints(plan: &Plan, memory: &Memory, out: &mut [u64])
-    requires { (accepted plan.now ≡ true) × (length out.old ≡ plan.now.actuators) }
-    ensures { out.new ≡ fill (setpoint plan.now memory.now) plan.now.actuators out.old }
+    requires { (length out.old ≤ most_actuators) × ((i : ℕ) → i < length out.old → get_or plan.now.actuator_cell i 0 < most_cells) }
+    ensures { out.new ≡ fill (setpoint plan.now memory.now) (length out.old) out.old }
 {
-    for i in 0..plan.actuators {
+    for i in 0..out.len() {
         let cell = plan.actuator_cell[i];
         out[i] = memory.cells[cell];
     }

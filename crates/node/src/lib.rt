@@ -24,7 +24,7 @@ pub fn compute(plan: Plan, memory: &mut Memory, sensors: &[u64]) -> Result<(), R
     if sensors.len() != wanted {
         return Err(Refusal::WrongLength);
     }
-    *memory = memory::step::compute(&plan, memory, sensors);
+    *memory = memory::step::compute(&plan, *memory, sensors);
     Ok(())
 }
 
@@ -50,7 +50,7 @@ pub fn vote(plan: Plan, memory: &mut Memory, mailbox: &[u8]) -> Result<usize, Re
     if mailbox.len() != memory::step::bin_at(nodes, cells) {
         return Err(Refusal::WrongLength);
     }
-    let vote = mailbox::step::vote(&plan, memory, mailbox);
+    let vote = mailbox::step::vote(&plan, *memory, mailbox);
     *memory = vote.memory;
     Ok(vote.agreement)
 }

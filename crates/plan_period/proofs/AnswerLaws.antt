@@ -11,12 +11,12 @@ use borrow.Author.Tests.{ne_eqb}
 use Rattle.array.proofs.TestLaws.{split, clash}
 use Rattle.answer.specs.declared.Refusal.{Refusal}
 use Rattle.answer.specs.declared.Refusal.TheVariants.{InvalidPlan}
-use Rattle.answer.specs.Tests.{Test, test, given, if_passed}
+use Rattle.answer.specs.Tests.{Test, test, passed, given, if_passed}
 use Rattle.answer.proofs.TestLaws.{first-passed, given-later, given-none, given-refused, given-alike, kept-refused}
 use Rattle.plan.specs.declared.Plan.{Plan}
 use Rattle.plan.specs.Known.{period}
 use Rattle.plan.specs.Accepted.{well_formed, accepted}
-use Rattle.plan_period.specs.Answers.{plan_tests, checked, period_found, if_any}
+use Rattle.plan_period.specs.Answers.{plan_tests, checked, period_found, accepted_period, if_any}
 use Rattle.plan.proofs.AcceptedLaws.{shape-of-accepted, bound-small}
 use Rattle.plan.proofs.PeriodLaws.{period-bound}
 
@@ -83,6 +83,13 @@ module _ (p : Plan) where
 
   pub period-is : {r : ℕ} → period_found p ≡ Ok r → r ≡ period p
   period-is e = ok-same (sym e ∙ period-accepted (accepted-of-period e))
+
+  -- it is 0 for all others
+  pub accepted-period : result_unwrap_or (period_found p) 0 ≡ accepted_period p
+  unfolding accepted_period plan_tests if_passed passed
+  accepted-period =
+      split (accepted p) (λ e. ap (λ o. result_unwrap_or o 0) (period-accepted e) ∙ rw e)
+      (λ e. ap (λ o. result_unwrap_or o 0) (period-refused e) ∙ rw e)
 
   -- and every other record is refused, whatever a call tests after it
 

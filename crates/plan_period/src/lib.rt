@@ -2,7 +2,7 @@
 #![tactic(auto)]
 
 ghost use Rattle.std.specs.Prelude.{◌≡◌};
-ghost use Rattle.plan_period.specs.Answers.{checked, period_found};
+ghost use Rattle.plan_period.specs.Answers.{checked, period_found, accepted_period};
 
 use answer::Refusal;
 use plan::Plan;
@@ -17,6 +17,13 @@ pub fn recovery_period(plan: Plan) -> Result<usize, Refusal>
         return Err(Refusal::InvalidPlan);
     }
     step::period(plan).ok_or(Refusal::InvalidPlan)
+}
+
+// That period, and 0 for all other records: no call with it is refused.
+pub fn accepted_period(plan: Plan) -> usize
+    ensures { result ≡ accepted_period plan }
+{
+    recovery_period(plan).unwrap_or(0)
 }
 
 pub fn check(plan: Plan) -> Result<(), Refusal>

@@ -27,9 +27,8 @@ pub extern "C" fn ragbasalt_listing_start(
 {
     match listing_start::start(text) {
         Ok(started) => {
-            step::put_run(System::NODES, started, run);
-            let words = plan_words::step::words(started.plan);
-            *plan = words;
+            step::put_run(System::NODES, &started, run);
+            plan_words::step::put(started.plan, plan);
             0
         }
         Err(refusal) => system_words::step::code(refusal),
@@ -53,7 +52,7 @@ pub extern "C" fn ragbasalt_listing_next(
     *count = printed.unwrap_or(0);
     match printed {
         Ok(_) => {
-            step::put_run(nodes, state, run);
+            step::put_run(nodes, &state, run);
             0
         }
         Err(refusal) => system_words::step::code(refusal),

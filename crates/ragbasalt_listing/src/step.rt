@@ -32,9 +32,9 @@ pub fn run(plan: Plan, words: &[u64]) -> Run
 }
 
 // The words of a run but its plan's; all others stay.
-pub fn put_run(nodes: usize, run: Run, words: &mut [u64])
+pub fn put_run(nodes: usize, run: &Run, words: &mut [u64])
     requires { nodes ≤ most_nodes }
-    ensures { words.new ≡ with_run nodes run words.old }
+    ensures { words.new ≡ with_run nodes run.now words.old }
 {
     let system = run.system;
     let single = run.single;

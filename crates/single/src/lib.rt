@@ -22,7 +22,7 @@ pub fn frame(
     if !((sensors.len() == wanted) & (place.len() == actuators)) {
         return Err(Refusal::WrongLength);
     }
-    let next = memory::step::compute(&plan, memory, sensors);
+    let next = memory::step::compute(&plan, *memory, sensors);
     memory::step::setpoints(&plan, &next, place);
     *memory = next;
     Ok(())

@@ -19,7 +19,9 @@ unfolding length_checked message_place
 returns-then-out-message_size c = length-refused _ _ _ _ _ _ (accepted-of-period _ (sym c.recovery_period.ensures ∙ c.in_ok-recovery_period.was)) (λ e. c.if-out-message_size.true (e ∙ sym c.message_size.ensures))
 
 pub message-requires : goal.message-requires
-message-requires c = (accepted-of-period _ (sym c.recovery_period.ensures ∙ c.in_ok-recovery_period.was), c.if-out-message_size.false ∙ c.message_size.ensures)
+message-requires c =
+    let s = shape-of-accepted _ (accepted-of-period _ (sym c.recovery_period.ensures ∙ c.in_ok-recovery_period.was)) in
+    (s.frames-pos, s.frames-le, s.cells-le, c.if-out-message_size.false ∙ c.message_size.ensures)
 
 pub returns : goal.returns
 unfolding length_checked message_place

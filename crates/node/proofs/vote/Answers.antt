@@ -19,7 +19,9 @@ unfolding vote_answer vote_memory
 returns-then-mailbox-bin_at c = length-refused _ _ _ _ _ _ (accepted-of-period _ (sym c.recovery_period.ensures ∙ c.in_ok-recovery_period.was)) (λ e. c.if-mailbox-bin_at.true (e ∙ sym c.bin_at.ensures))
 
 pub vote-vote-requires : goal.vote-vote-requires
-vote-vote-requires c = (accepted-of-period _ (sym c.recovery_period.ensures ∙ c.in_ok-recovery_period.was), c.if-mailbox-bin_at.false ∙ c.bin_at.ensures)
+vote-vote-requires c =
+    let s = shape-of-accepted _ (accepted-of-period _ (sym c.recovery_period.ensures ∙ c.in_ok-recovery_period.was)) in
+    (s.nodes-high, s.frames-pos, s.frames-le, s.cells-le, c.if-mailbox-bin_at.false ∙ c.bin_at.ensures)
 
 pub returns : goal.returns
 unfolding vote_answer vote_memory

@@ -6,6 +6,7 @@ use borrow.Author.Tests.{eqb-true}
 use Rattle.array.proofs.TestLaws.{and_left, and_right}
 use Rattle.answer.proofs.TestLaws.{handed-on}
 use Rattle.plan_period.proofs.AnswerLaws.{accepted-of-period}
+use Rattle.memory.proofs.StepLaws.{places-right, places-all}
 use Rattle.single.proofs.CallLaws.{single-plan, single-length, single-done}
 use Rattle.single.proofs.frame.Goals as goal
 
@@ -23,7 +24,10 @@ compute-next-requires c =
 pub setpoints-requires : goal.setpoints-requires
 setpoints-requires c =
     let a = c.args in
-    (accepted-of-period _ (sym c.recovery_period.ensures ∙ c.in_ok-recovery_period.was), eqb-true _ _ (and_right (eqb (length a.sensors.now) a.plan.sensors) _ c.if-not-sensors-wanted.false))
+    places-right _ (accepted-of-period _ (sym c.recovery_period.ensures ∙ c.in_ok-recovery_period.was)) (eqb-true _ _ (and_right (eqb (length a.sensors.now) a.plan.sensors) _ c.if-not-sensors-wanted.false))
 
 pub returns : goal.returns
-returns c = single-done _ _ _ _ (accepted-of-period _ (sym c.recovery_period.ensures ∙ c.in_ok-recovery_period.was)) c.if-not-sensors-wanted.false c.compute-next.ensures c.setpoints.ensures
+returns c =
+    let a = c.args in
+    single-done _ _ _ _ (accepted-of-period _ (sym c.recovery_period.ensures ∙ c.in_ok-recovery_period.was)) c.if-not-sensors-wanted.false c.compute-next.ensures
+    (c.setpoints.ensures ∙ places-all _ _ _ (eqb-true _ _ (and_right (eqb (length a.sensors.now) a.plan.sensors) _ c.if-not-sensors-wanted.false)))

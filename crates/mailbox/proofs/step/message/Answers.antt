@@ -2,23 +2,21 @@
 use mathlib.Core.Path.{sym, ◌∙◌}
 use native.Mathlib.Omega.{arith}
 use borrow.Author.Rules.{rules}
-use Rattle.plan.proofs.AcceptedLaws.{shape-of-accepted}
 use Rattle.memory.specs.Node.{sent_cell, message_of}
 use Rattle.memory.proofs.StepLaws.{sent-none, sent-more, sent-all, sent-cell}
 use Rattle.mailbox.proofs.step.message.Goals as goal
 
 pub frame_before-g-requires : goal.frame_before-g-requires
-frame_before-g-requires c = let s = shape-of-accepted _ c.requires.0 in (s.frames-pos, s.frames-le)
+frame_before-g-requires c = (c.requires.0, c.requires.1)
 
 pub loop-c-init : goal.loop-c-init
 loop-c-init c =
     let a = c.args in
-    let w = c.write_be2 in
-    let s = shape-of-accepted _ c.requires.0 in (
-      s.cells-le,
-      omega (arith, s.frames-le, c.frame_before-g.ensures.1),
-      omega (arith, w.auto.s, c.requires.1),
-      sent-none a.out.now w.new.s (sent_cell _ a.memory.now) a.memory.now.counter (omega (arith, c.requires.1)) w.ensures,
+    let w = c.write_be2 in (
+      c.requires.2,
+      omega (arith, c.requires.1, c.frame_before-g.ensures.1),
+      omega (arith, w.auto.s, c.requires.3),
+      sent-none a.out.now w.new.s (sent_cell _ a.memory.now) a.memory.now.counter (omega (arith, c.requires.3)) w.ensures,
     )
 
 pub loop-c-preserved : goal.loop-c-preserved
@@ -34,7 +32,7 @@ loop-c-preserved c =
     )
 
 pub shape_of-out : goal.shape_of-out
-shape_of-out c = c.loop-c.invariant.2 ∙ sym c.requires.1
+shape_of-out c = c.loop-c.invariant.2 ∙ sym c.requires.3
 
 pub returns : goal.returns
 unfolding message_of

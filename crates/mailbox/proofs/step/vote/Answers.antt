@@ -3,7 +3,6 @@ use mathlib.Core.Path.{◌≡◌, refl, sym, ap, ◌∙◌}
 use native.Mathlib.Omega.{arith}
 use native.Mathlib.Numerals.{add-one}
 use borrow.Author.Rules.{rules}
-use Rattle.plan.proofs.AcceptedLaws.{shape-of-accepted}
 use Rattle.array.proofs.PlacesLaws.{fill_none}
 use Rattle.array.proofs.LoopLaws.{stored-all}
 use Rattle.array.proofs.LeastLaws.{least-none}
@@ -12,22 +11,16 @@ use Rattle.mailbox.proofs.step.vote.Goals as goal
 use Rattle.mailbox.proofs.step.vote.Goals.{else-is_voted, then-is_voted}
 
 pub words_in-bins-requires : goal.words_in-bins-requires
-words_in-bins-requires c = let s = shape-of-accepted _ c.requires.0 in (s.nodes-high, s.cells-le, omega arith, omega (arith, c.requires.1))
+words_in-bins-requires c = (c.requires.0, c.requires.3, omega arith, omega (arith, c.requires.4))
 
 pub majority-decided-requires : goal.majority-decided-requires
-majority-decided-requires c = (c.words_in-bins.ensures.few, (shape-of-accepted _ c.requires.0).nodes-high)
-
-pub or_own-counter-requires : goal.or_own-counter-requires
-or_own-counter-requires c = (shape-of-accepted _ c.requires.0).frames-le
+majority-decided-requires c = (c.words_in-bins.ensures.few, c.requires.0)
 
 pub agreement-agreement-requires : goal.agreement-agreement-requires
-agreement-agreement-requires c = omega (arith, c.words_in-bins.ensures.few, (shape-of-accepted _ c.requires.0).nodes-high)
-
-pub frame_before-frame-requires : goal.frame_before-frame-requires
-frame_before-frame-requires c = let s = shape-of-accepted _ c.requires.0 in (s.frames-pos, s.frames-le)
+agreement-agreement-requires c = omega (arith, c.words_in-bins.ensures.few, c.requires.0)
 
 pub loop-c-init : goal.loop-c-init
-loop-c-init c = let s = shape-of-accepted _ c.requires.0 in (refl, s.cells-le, omega (arith, s.frames-le, c.frame_before-frame.ensures.1), s.nodes-high, c.requires.1, sym (fill_none _ _), least-none _ _ _)
+loop-c-init c = (refl, c.requires.3, omega (arith, c.requires.2, c.frame_before-frame.ensures.1), c.requires.0, c.requires.4, sym (fill_none _ _), least-none _ _ _)
 
 pub words_in-values-requires : goal.words_in-values-requires
 words_in-values-requires c = (c.loop-c.invariant.3, c.loop-c.invariant.1, omega (arith, c.loop-c-test.true), omega (arith, c.loop-c.invariant.4))
@@ -45,7 +38,7 @@ loop-c-preserved c =
     let a = c.args in
     let p = a.plan.now in
     let box = a.mailbox.now in
-    let cells = a.memory.now.cells in
+    let cells = a.memory.cells in
     let g = c.frame_before-frame.result in
     elim c.if-is_voted.branch [
       | then-is_voted w ↦
@@ -76,7 +69,7 @@ returns c =
     let i = c.loop-c.invariant in
     let a = c.args in
     let p = a.plan.now in
-    let m = a.memory.now in
+    let m = a.memory in
     let box = a.mailbox.now in
     let counter = counter-voted p box m _ c.words_in-bins.ensures c.majority-decided.ensures c.or_own-counter.ensures in
     let all : c.loop-c.c ≡ p.cells = omega arith in (

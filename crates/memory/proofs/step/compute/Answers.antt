@@ -36,5 +36,5 @@ pub returns : goal.returns
 returns c =
     let l = c.loop-k in
     let p = c.args.plan.now in
-    computed-is p c.args.sensors.now c.args.memory.now
+    computed-is p c.args.sensors.now c.args.memory
     (elim c.loop-k-test.branch [ else-loop-k-test w ↦ tasks-end p _ _ _ l.invariant.2 (omega (arith, w.loop-k-test.false, l.invariant.0)) | then-loop-k-test+then-g-frame w ↦ tasks-later p _ _ _ (shape-of-accepted p c.requires.0) l.invariant.2 w.loop-k-test.true w.if-g-frame.true ])

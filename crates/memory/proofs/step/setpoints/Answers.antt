@@ -3,7 +3,6 @@ use mathlib.Core.Path.{refl, sym}
 use native.Mathlib.Omega.{arith}
 use Rattle.array.proofs.PlacesLaws.{fill_none}
 use Rattle.array.proofs.LoopLaws.{stored_next, stored-all}
-use Rattle.plan.proofs.AcceptedLaws.{shape-of-accepted}
 use Rattle.memory.specs.Node.{setpoint}
 use Rattle.memory.proofs.step.setpoints.Goals as goal
 
@@ -11,13 +10,13 @@ pub loop-i-init : goal.loop-i-init
 loop-i-init c = sym (fill_none _ _)
 
 pub bounds-plan-i : goal.bounds-plan-i
-bounds-plan-i c = let s = shape-of-accepted _ c.requires.0 in omega (arith, s.actuators-le)
+bounds-plan-i c = omega (arith, c.requires.0)
 
 pub offset_bounds-memory-cell : goal.offset_bounds-memory-cell
-offset_bounds-memory-cell c = let s = shape-of-accepted _ c.requires.0 in omega (arith, s.actuator c.loop-i.i c.loop-i-test.true, s.cells-le)
+offset_bounds-memory-cell c = omega (arith, c.requires.1 c.loop-i.i c.loop-i-test.true)
 
 pub bounds-memory-cell : goal.bounds-memory-cell
-bounds-memory-cell c = let s = shape-of-accepted _ c.requires.0 in omega (arith, s.actuator c.loop-i.i c.loop-i-test.true, s.cells-le)
+bounds-memory-cell c = omega (arith, c.requires.1 c.loop-i.i c.loop-i-test.true)
 
 pub loop-i-preserved : goal.loop-i-preserved
 unfolding setpoint
